@@ -1,0 +1,4 @@
+pub mod Options
+pub mod Together
+mod Judged
+mod Sums
