@@ -1,0 +1,5 @@
+-- Declares the lemmas that the proofs share.
+mod Grids
+pub mod Tables
+mod TableFaults
+mod Laws
