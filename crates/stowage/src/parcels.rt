@@ -1,4 +1,4 @@
-// The parcels' rule: litres and kilograms, and four times of the week.
+//! The parcels' rule: litres and kilograms, and four times of the week.
 ghost use mathlib.Core.Path.{_≡_};
 ghost use Rattle.stowage.specs.Parcels.{lift, bare, lifted as taken, parcel-promise};
 use crate::BadFigure;
@@ -10,11 +10,11 @@ use crate::WEEK;
 use crate::Window;
 use crate::require;
 
-// Figures: litres, kilograms, pickup opens, pickup closes, drop-off opens, drop-off closes.
+/// Figures: litres, kilograms, pickup opens, pickup closes, drop-off opens, drop-off closes.
 #[derive(Clone, Copy, PartialEq, Eq, Debug)]
 pub struct Parcels;
 
-// The hold with so many litres and kilograms, if they keep the limits.
+/// The hold with so many litres and kilograms, if they keep the limits.
 fn lifted(litres: u32, kilograms: u32) -> Option<Cargo>
     ensures { λ r. ⌜ r ≡ taken litres kilograms ⌝ }
 {

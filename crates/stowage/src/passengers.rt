@@ -1,4 +1,4 @@
-// The passengers' rule: seats and wheelchairs, and a ride no longer than the direct road and its detour.
+//! The passengers' rule: seats and wheelchairs, and a ride no longer than the direct road and its detour.
 ghost use mathlib.Core.Path.{_≡_};
 ghost use Prim.Native.Nat.{_≤_};
 ghost use Rattle.stowage.specs.Passengers.{seat, vacant, seated as taken, passenger-promise, ride-limit};
@@ -12,11 +12,11 @@ use crate::WEEK;
 use crate::Window;
 use crate::require;
 
-// Figures: seats, wheelchairs, ready, wait, detour percent, latest arrival.
+/// Figures: seats, wheelchairs, ready, wait, detour percent, latest arrival.
 #[derive(Clone, Copy, PartialEq, Eq, Debug)]
 pub struct Passengers;
 
-// The hold with so many seats and wheelchairs taken, if they keep the limits.
+/// The hold with so many seats and wheelchairs taken, if they keep the limits.
 fn seated(seats: u32, wheelchairs: u32) -> Option<Seating>
     ensures { λ r. ⌜ r ≡ taken seats wheelchairs ⌝ }
 {
@@ -27,7 +27,7 @@ fn seated(seats: u32, wheelchairs: u32) -> Option<Seating>
     }
 }
 
-// The direct road and its detour in percent, rounded down.
+/// The direct road and its detour in percent, rounded down.
 fn ride_limit(direct: u32, percent: u32) -> u32
     requires { ⌜ percent ≤ 300 ⌝ }
     ensures { λ r. ⌜ r ≡ ride-limit direct percent ⌝ }

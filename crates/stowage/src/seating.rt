@@ -1,8 +1,8 @@
-// The hold of a passenger van.
+//! The hold of a passenger van.
 ghost use lib.Dec.{T};
 ghost use Rattle.stowage.specs.Limits.{seating-room};
 
-// Seats and wheelchairs taken.
+/// Seats and wheelchairs taken.
 #[derive(Clone, Copy, PartialEq, Eq, Debug)]
 pub struct Seating {
     pub seats: u32,

@@ -1,4 +1,4 @@
-// Lines of fields parted by commas, and the decimal numbers in them.
+//! Lines of fields parted by commas, and the decimal numbers in them.
 ghost use mathlib.Core.Path.{_≡_};
 ghost use Prim.Native.Nat.{_+_, _^_, _≤_, _<_};
 ghost use mathlib.Core.List.{_∷_};
@@ -12,23 +12,23 @@ ghost use Rattle.text.specs.Numbers.{decimal, number32, short-number, numbers-
 use std::alloc::AllocError;
 use std::alloc::Global;
 
-// The byte that parts fields.
+/// The byte that parts fields.
 const COMMA: u8 = b',';
 
-// The most digits that a number has.
+/// The most digits that a number has.
 const MOST_DIGITS: usize = 10;
 
-// The most digits that a short number has.
+/// The most digits that a short number has.
 const MOST_SHORT_DIGITS: usize = 7;
 
-// A field: the line's own bytes between two commas, and the place in the line at which they begin.
+/// A field: the line's own bytes between two commas, and the place in the line at which they begin.
 #[derive(Clone, Copy)]
 pub struct Field<'a> {
     pub bytes: &'a [u8],
     pub place: usize,
 }
 
-// What is left of a line from a place on: no bytes, where the place lies past the end.
+/// What is left of a line from a place on: no bytes, where the place lies past the end.
 #[derive(Clone, Copy)]
 pub struct Rest<'a> {
     pub line: &'a [u8],
@@ -36,7 +36,7 @@ pub struct Rest<'a> {
 }
 
 impl<'a> Rest<'a> {
-    // All of a line.
+    /// All of a line.
     pub fn whole(line: &'a [u8]) -> Rest<'a>
         ensures line { λ r. ⌜ now (r .line) ≡ now (line .entry) ⌝ }
         ensures place { λ r. ⌜ r .place ≡ 0 ⌝ }
@@ -45,7 +45,7 @@ impl<'a> Rest<'a> {
         Rest { line, place: 0 }
     }
 
-    // The bytes that are left.
+    /// The bytes that are left.
     pub fn bytes(self) -> &'a [u8]
         ensures { λ r. ⌜ now r ≡ bytes-left (self .entry) ⌝ }
     {
@@ -54,7 +54,7 @@ impl<'a> Rest<'a> {
     }
 }
 
-// How many bytes stand before the first comma.
+/// How many bytes stand before the first comma.
 fn field_length(bytes: &[u8]) -> usize
     ensures value { λ r. ⌜ r ≡ length (field-of (now (bytes .entry))) ⌝ }
     ensures bound { λ r. ⌜ r ≤ length (now (bytes .entry)) ⌝ }
@@ -67,7 +67,7 @@ fn field_length(bytes: &[u8]) -> usize
     bytes.len()
 }
 
-// The first field of what is left of a line, and what is left after the field's comma, if it has one.
+/// The first field of what is left of a line, and what is left after the field's comma, if it has one.
 pub fn split_field(rest: Rest<'_>) -> (Field<'_>, Option<Rest<'_>>)
     ensures field { λ r. ⌜ now (r .0 .bytes) ≡ field-of (bytes-left (rest .entry)) ⌝ }
     ensures place { λ r. ⌜ r .0 .place ≡ rest .entry .place ⌝ }
@@ -91,7 +91,7 @@ pub fn split_field(rest: Rest<'_>) -> (Field<'_>, Option<Rest<'_>>)
     (field, Some(next))
 }
 
-// How many fields a line has: one more than it has commas.
+/// How many fields a line has: one more than it has commas.
 pub fn count_fields(line: &[u8]) -> usize
     ensures count { λ r. ⌜ r ≡ length (fields (now (line .entry))) ⌝ }
     ensures law { λ _. ⌜ Parts-one-way (now (line .entry)) ⌝ }
@@ -105,7 +105,7 @@ pub fn count_fields(line: &[u8]) -> usize
     count
 }
 
-// The number that a field of at most 10 bytes writes in decimal digits.
+/// The number that a field of at most 10 bytes writes in decimal digits.
 fn read_decimal(field: &[u8]) -> Option<u64>
     requires { ⌜ length (now field) ≤ 10 ⌝ }
     ensures value { λ r. ⌜ r ≡ decimal (now (field .entry)) ⌝ }
@@ -124,7 +124,7 @@ fn read_decimal(field: &[u8]) -> Option<u64>
     Some(value)
 }
 
-// The number of 1 to 10 digits that a field writes, if it fits 32 bits.
+/// The number of 1 to 10 digits that a field writes, if it fits 32 bits.
 pub fn read_number(field: &[u8]) -> Option<u32>
     ensures { λ r. ⌜ r ≡ number32 (now (field .entry)) ⌝ }
 {
@@ -134,7 +134,7 @@ pub fn read_number(field: &[u8]) -> Option<u32>
     u32::try_from(read_decimal(field)?).ok()
 }
 
-// The number of 1 to 7 digits, with no needless zero in front, that a field writes.
+/// The number of 1 to 7 digits, with no needless zero in front, that a field writes.
 pub fn read_short_number(field: &[u8]) -> Option<u32>
     ensures { λ r. ⌜ r ≡ short-number (now (field .entry)) ⌝ }
 {
@@ -144,7 +144,7 @@ pub fn read_short_number(field: &[u8]) -> Option<u32>
     Some(read_decimal(field)? as u32)
 }
 
-// The numbers in the fields of a rest, in order, if each field is a number: none where there is no rest.
+/// The numbers in the fields of a rest, in order, if each field is a number: none where there is no rest.
 pub fn read_numbers(heap: Global, rest: Option<Rest<'_>>) -> Result<Option<Vec<u32>>, AllocError>
     ensures { λ r. ⌜ made r (λ numbers. mapped vec-items numbers ≡ numbers-of (mapped bytes-left (rest .entry))) ⌝ }
 {

@@ -1,13 +1,18 @@
 -- Each row of the worked examples holds, by computing it.
 use mathlib.Core.Path.{refl}
 use mathlib.Core.List.{List, [], _∷_}
+use mathlib.Core.Logic.{inl}
 use Prim.Native.Nat.{ℕ}
 use native.Mathlib.Omega.{arith}
 use lib.Dec.{lit<, lit≤}
 use Rattle.roads.specs.declared.RoadFault.the-variants.{Detour}
 use Rattle.roads.specs.Tables.{Square}
 use Rattle.std.specs.shelf.Lists.{All}
-use Rattle.worked.specs.Examples.{Holds, rows, table-refused}
+use Rattle.orders.specs.Trees.{step, children, grow, kinetic-tree}
+use Rattle.orders.specs.Walks.{departs}
+use Rattle.worked.specs.Examples.{Example, Holds, rows, table-refused, served-by}
+use Rattle.worked.specs.Town.{parcels, parcel, van-one}
+use Rattle.worked.proofs.Orders.{Computes, holds}
 use Rattle.worked.proofs.Tables.{fails-below, none-bad, through, no-shortcut-through, lawful-by-tests}
 
 -- three places in a row, 5 seconds apart, the ends that many seconds apart
@@ -37,5 +42,60 @@ shortcut-found = (
   refl,
 )
 
+-- an order's stops, served each at its second
+stops-of-parcel : Computes (served-by parcels (van-one (parcel ∷ [])) (9 ∷ 9 ∷ []) (500 ∷ 600 ∷ []))
+unfolding departs
+stops-of-parcel = (parcel, inl refl, refl, refl, (_, inl refl, refl, refl, refl))
+
+rows-compute : All Computes rows
+unfolding departs step children grow kinetic-tree
+rows-compute = (
+  (_, refl, refl),
+  (
+    refl,
+    (
+      refl,
+      (
+        shortcut-found,
+        (
+          lawful-by-tests 3 (ends 10) (square 10) refl refl,
+          (
+            refl,
+            (
+              refl,
+              (
+                refl,
+                (
+                  (([], 0), (7 ∷ 7 ∷ [], 200), refl, refl, refl),
+                  (
+                    ((7 ∷ 7 ∷ [], 200), (7 ∷ 7 ∷ 8 ∷ 8 ∷ [], 300), refl, refl, refl),
+                    (
+                      refl,
+                      (
+                        refl,
+                        (
+                          refl,
+                          (
+                            stops-of-parcel,
+                            (refl, (refl, (refl, (refl, (refl, (refl, tt)))))),
+                          ),
+                        ),
+                      ),
+                    ),
+                  ),
+                ),
+              ),
+            ),
+          ),
+        ),
+      ),
+    ),
+  ),
+)
+
+all-hold : (xs : List Example) → All Computes xs → All Holds xs
+all-hold [] h = tt
+all-hold (x ∷ xs) h = (holds x (h .0), all-hold xs (h .1))
+
 pub rows-hold : All Holds rows
-rows-hold = ((_, refl, refl), (refl, (refl, (shortcut-found, (lawful-by-tests 3 (ends 10) (square 10) refl refl, tt)))))
+rows-hold = all-hold rows rows-compute

@@ -9,5 +9,5 @@ pub fn examples() -> usize
     ensures count { λ r. ⌜ r ≡ length rows ⌝ }
     ensures each { λ _. ⌜ All Holds rows ⌝ }
 {
-    5
+    20
 }

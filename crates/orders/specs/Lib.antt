@@ -1,0 +1,11 @@
+pub mod Bookings
+pub mod Rules
+pub mod Walks
+pub mod Moves
+pub mod Orders
+pub mod Trees
+pub mod Slabs
+pub mod Growth
+pub mod Listings
+pub mod Fullest
+pub mod Laws
