@@ -1,5 +1,6 @@
 -- Shows the laws of exactness, thinning, moves and guided growth.
 use mathlib.Core.Path.{_≡_, refl, sym, ap, subst, _∙_}
+use mathlib.Core.Bool.{true}
 use mathlib.Core.Logic.{_↔_, inl, inr}
 use mathlib.Core.List.{List, [], _∷_, _++_}
 use Prim.Native.Nat.{ℕ, _-_, _≤_}
@@ -9,9 +10,10 @@ use Rattle.std.specs.declared.option.Option.{Option}
 use Rattle.std.specs.declared.option.Option.the-variants.{Some, None}
 use Rattle.std.proofs.shelf.Lists.{append-nil}
 use Rattle.orders.specs.declared.Booking.{Booking}
+use Rattle.orders.specs.declared.Booking.the-variants.{Waiting, Aboard}
 use Rattle.orders.specs.Rules.{Rules, Lawful}
 use Rattle.orders.specs.Bookings.{In, number-of, stops, Ascending, New}
-use Rattle.orders.specs.Walks.{Walk, after, Allowed, Valid}
+use Rattle.orders.specs.Walks.{Walk, departs, service, after, within-limits, Allowed, Valid}
 use Rattle.orders.specs.Moves.{with-booking, at-time, bound-to, served-at}
 use Rattle.orders.specs.Orders.{Least, Price}
 use Rattle.orders.specs.Trees.{Tree, empty, stop, nodes, orders-of, tree-row, kinetic-tree}
@@ -19,7 +21,7 @@ use Rattle.orders.specs.Growth.{only, nobody, anybody, guide-row, guided}
 use Rattle.orders.specs.Listings.{without, Orders-ascend, orders}
 use Rattle.orders.specs.Laws.{Exact-orders, Thins, Serves, Moves, Guides}
 use Rattle.orders.proofs.Basics.{in-nothing, nil-cons}
-use Rattle.orders.proofs.Steps.{valid-length, one-booking, after-ascending}
+use Rattle.orders.proofs.Steps.{departs-in-turn, valid-length, one-booking, after-ascending}
 use Rattle.orders.proofs.Paths.{listed-nodes}
 use Rattle.orders.proofs.Grown.{sound, complete, ascend-grow}
 use Rattle.orders.proofs.Nodes.{some-order}
@@ -68,6 +70,20 @@ module _ (g : Rules) where
     nothing-open = λ w e o cost. (idle-valid w e o cost, valid-idle w e o cost);
   }
 
+  -- an order that is valid later is valid now
+  clock-moves : (o : List ℕ) (w : Walk) (T cost : ℕ) → w .second ≤ T → Valid g (at-time w T) o cost → Valid g w o cost
+  clock-moves [] w T cost h v = v
+  clock-moves (n ∷ o) w T cost h v =
+      let b = v .0 in
+      let a = v .3 in
+      let sooner : service g w b ≤ service g (at-time w T) b = omega arith in
+      let allowed : Allowed g w b = record { here = a .here; there = a .there; timely = (let t = a .timely in omega arith); limits = same-limits w T b (a .limits) } in
+      (b, v .1, v .2, allowed, clock-moves o (after g w b) (departs (service g (at-time w T) b)) cost (departs-in-turn _ _ sooner) (v .4))
+    where
+      same-limits : (w : Walk) (T : ℕ) (b : Booking) → within-limits g (at-time w T) b ≡ true → within-limits g w b ≡ true
+      same-limits w T (Waiting pickup j) e = e
+      same-limits w T (Aboard since j) e = e
+
   module _ (lawful : Lawful g) where
     thinner : (w : Walk) (b : Booking) → New b (w .bookings) → (o : List ℕ) (cost : ℕ) → Valid g (with-booking w b) o cost →
         (less : ℕ) × (less ≤ cost) × Valid g w (without (number-of b) o) less
@@ -95,12 +111,6 @@ module _ (g : Rules) where
       priced = priced;
     }
 
-    clock-moves : (w : Walk) (T : ℕ) → w .second ≤ T → (o : List ℕ) (cost : ℕ) → Valid g (at-time w T) o cost →
-        (less : ℕ) × (less ≤ cost) × Valid g w o less
-    clock-moves w T h o cost v =
-        let t = thinned g nobody 0 lawful o cost (ahead-clock g w T h) v in
-        (t .0, let l = t .1 in omega arith, subst (λ p. Valid g w p (t .0)) (leave-out-nobody o) (t .2))
-
     -- a stop that is served as an order may have it may be served next
     serves-allowed : (w : Walk) (b : Booking) (T : ℕ) → Serves g w b T → Allowed g (at-time w T) b
     serves-allowed w b T s = record {
@@ -119,12 +129,12 @@ module _ (g : Rules) where
 
     pub moves : Moves g
     moves = record {
-      clock = clock-moves;
+      clock = λ w T h o cost v. clock-moves o w T cost h v;
       bound = λ w p T here there h o cost v.
           (let t = thinned g nobody (g .trip (w .place) p) lawful o cost (ahead-bound g lawful w p T here there h) v in
           (t .0, t .1, subst (λ q. Valid g w q (t .0)) (leave-out-nobody o) (t .2)));
       served = served-moves;
-      tails = λ w b T a s o cost v. clock-moves w T (s .time) (number-of b ∷ o) cost (served-moves w b T a s o cost .0 v);
+      tails = λ w b T a s o cost v. clock-moves (number-of b ∷ o) w T cost (s .time) (served-moves w b T a s o cost .0 v);
     }
 
     -- where the old tree does not have the stop that is served, nothing grows from it

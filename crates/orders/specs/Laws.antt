@@ -35,7 +35,7 @@ pub record Shows (g : Rules) (w : Walk) (b : Booking) (level : ℕ) (x : Node) :
   pub second : x .second ≡ service g w b
   pub cost : x .cost ≡ after g w b .cost
 
--- a valid order of w begins with the path, whose last stop the node shows; w is at this depth
+-- a valid order of w begins with the path, whose last stop the node shows; the stops next after w stand at this depth
 abbrev pub Begins : (g : Rules) → Walk → ℕ → List ℕ → Node → Type 0
 Begins g w depth [] x = ⊥
 Begins g w depth (n ∷ []) x =
@@ -82,18 +82,17 @@ pub record Serves (g : Rules) (w : Walk) (b : Booking) (second : ℕ) : Type 0 w
   pub closes : second ≤ next-stop b .window .closes
   pub limits : within-limits g w b ≡ true
 
--- Moves: after the clock, and once the van is bound for another place, every valid order was valid before. When a stop is
--- served on time and within its limit, just the tails of the orders that then begin with it are valid, and these were valid
--- before.
+-- Moves: after the clock, and once the van is bound for another place, every valid order was valid before, at the same cost,
+-- or at most at that of the way there more. When a stop is served on time and within its limit, just the tails of the orders
+-- that then begin with it are valid, and these orders were valid before.
 pub record Moves (g : Rules) : Type 0 where
-  pub clock : (w : Walk) (second : ℕ) → w .second ≤ second → (o : List ℕ) (cost : ℕ) → Valid g (at-time w second) o cost →
-      (less : ℕ) × (less ≤ cost) × Valid g w o less
+  pub clock : (w : Walk) (second : ℕ) → w .second ≤ second → (o : List ℕ) (cost : ℕ) → Valid g (at-time w second) o cost → Valid g w o cost
   pub bound : (w : Walk) (place second : ℕ) → w .place < g .places → place < g .places → w .second + g .trip (w .place) place ≤ second →
       (o : List ℕ) (cost : ℕ) → Valid g (bound-to g w place second) o cost → (other : ℕ) × (other ≤ cost + g .trip (w .place) place) × Valid g w o other
   pub served : (w : Walk) (b : Booking) (second : ℕ) → Ascending (w .bookings) → Serves g w b second → (o : List ℕ) (cost : ℕ) →
       Valid g (served-at w b second) o cost ↔ Valid g (at-time w second) (number-of b ∷ o) cost
   pub tails : (w : Walk) (b : Booking) (second : ℕ) → Ascending (w .bookings) → Serves g w b second → (o : List ℕ) (cost : ℕ) →
-      Valid g (served-at w b second) o cost → (less : ℕ) × (less ≤ cost) × Valid g w (number-of b ∷ o) less
+      Valid g (served-at w b second) o cost → Valid g w (number-of b ∷ o) cost
 
 -- the nodes below the root of number n
 abbrev pub below-root : ℕ → List Node → List Node

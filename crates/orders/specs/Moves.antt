@@ -24,20 +24,9 @@ at-time w second = record { place = w .place; second = second; driven = w .drive
 
 -- the van is bound for a place, and can next turn there, at this second
 abbrev pub bound-to : Rules → Walk → ℕ → ℕ → Walk
-bound-to g w place second = record {
-  place = place;
-  second = second;
-  driven = w .driven + g .trip (w .place) place;
-  cost = w .cost;
-  bookings = w .bookings;
-}
+bound-to g w place second =
+    record { place = place; second = second; driven = w .driven + g .trip (w .place) place; cost = w .cost; bookings = w .bookings }
 
 -- b's next stop is served where the van is, at this second
 abbrev pub served-at : Walk → Booking → ℕ → Walk
-served-at w b second = record {
-  place = w .place;
-  second = departs second;
-  driven = w .driven;
-  cost = w .cost;
-  bookings = served (w .driven) (number-of b) (w .bookings);
-}
+served-at w b second = with-open (at-time w (departs second)) (served (w .driven) (number-of b) (w .bookings))

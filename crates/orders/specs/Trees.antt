@@ -30,10 +30,14 @@ nodes depth (stop n k s c below beside) =
 abbrev pub Pathed : Type 0
 Pathed = List ℕ × Node
 
--- the nodes of a row with their paths, by depth alone; `path` is the path of the node before
+-- the path to a node, by its depth alone, from the path to the node before it
+abbrev pub path-to : List ℕ → Node → List ℕ
+path-to before x = take (x .depth - 1) before ++ (x .booking ∷ [])
+
+-- the nodes of a row with their paths
 abbrev pub paths : List ℕ → List Node → List Pathed
-paths path [] = []
-paths path (x ∷ xs) = (take (x .depth - 1) path ++ (x .booking ∷ []), x) ∷ paths (take (x .depth - 1) path ++ (x .booking ∷ [])) xs
+paths before [] = []
+paths before (x ∷ xs) = (path-to before x, x) ∷ paths (path-to before x) xs
 
 -- an order ends at each node of span 1
 abbrev pub ending : List Pathed → List Order
@@ -44,9 +48,9 @@ ending (q ∷ qs) = cond (eqb (q .1 .span) 1) ((q .0, q .1 .cost) ∷ ending qs)
 abbrev pub listed : List Node → List Order
 listed xs = ending (paths [] xs)
 
--- b's stop, served at this second, stands in the tree if v, the walk from it on, has nothing open any more, or if
--- something grows below it
-abbrev pub branch : Booking → ℕ → (v : Walk) → List Booking → Tree → Tree → Tree
+-- b's stop, served at this second, stands in the tree if v, the walk from it on, has nothing open any more, or if something
+-- grows below it
+abbrev pub branch : Booking → ℕ → Walk → List Booking → Tree → Tree → Tree
 branch b second v [] below beside = stop (number-of b) (stop-kind b) second (v .cost) empty beside
 branch b second v (c ∷ cs) empty beside = beside
 branch b second v (c ∷ cs) (stop n k s t x y) beside = stop (number-of b) (stop-kind b) second (v .cost) (stop n k s t x y) beside
