@@ -46,6 +46,18 @@ pub struct Node {
     pub cost: u32,
 }
 
+impl Node {
+    /// A node that is not used.
+    pub const BLANK: Node = Node {
+        booking: 0,
+        kind: 0,
+        depth: 0,
+        span: 0,
+        second: 0,
+        cost: 0,
+    };
+}
+
 /// The tree's nodes list exactly the valid orders, each once and ascending, and there is one node for each beginning of a
 /// valid order, with the second of service and the cost of the walk to it, spanning itself and all below it.
 pub fn exactness<R: Roads, S: Stowage>(roads: &R, rule: &S)

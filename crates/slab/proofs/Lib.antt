@@ -1,0 +1,9 @@
+pub mod Entered
+pub mod Told
+pub mod Equal
+pub mod Best
+pub mod Turns
+pub mod Picked
+pub mod Tracks
+pub mod Exact
+pub mod Bounds
