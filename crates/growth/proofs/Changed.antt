@@ -5,21 +5,15 @@ use Prim.Native.Nat.{ℕ, _-_}
 use lib.ListN.{length, replicate}
 use Rattle.orders.specs.declared.Node.{Node}
 use Rattle.orders.specs.Rules.{Rules, Lawful}
-use Rattle.orders.specs.Bookings.{number-of}
 use Rattle.orders.specs.Walks.{Walk}
-use Rattle.orders.specs.Moves.{with-booking, at-time, bound-to, served-at}
-use Rattle.orders.specs.Trees.{nodes, tree-row, kinetic-tree, orders-of}
-use Rattle.orders.specs.Slabs.{blank, slab}
+use Rattle.orders.specs.Trees.{tree-row, kinetic-tree}
+use Rattle.orders.specs.Slabs.{blank}
 use Rattle.orders.specs.Growth.{Ended}
-use Rattle.orders.specs.Laws.{below-root}
 use Rattle.orders.proofs.Rows.{ended-blanks}
 use Rattle.orders.proofs.Theorems.{guides}
 use Rattle.growth.specs.declared.guide.Fresh.{Fresh}
-use Rattle.growth.specs.declared.guide.Fresh.the-variants.{Only, Nobody, Everybody}
-use Rattle.growth.specs.declared.tally.Tally.{Tally}
 use Rattle.growth.specs.Guides.{grown}
 use Rattle.growth.specs.Changes.{Suffices, booked, clock, bound, served, anew}
-use Rattle.growth.specs.Surveys.{least-cost, Tallies, Surveys}
 
 module _ (g : Rules) (lawful : Lawful g) where
   -- the blanks of a slab behind the tree of u
@@ -39,9 +33,3 @@ module _ (g : Rules) (lawful : Lawful g) where
   whole fresh old w (served size u b second o a s f e) =
       (λ i. grown g (f i) (o i) (e i)) ∙ guides g lawful .served u b second a s (blanks size u) (ended size u) ∙ ap (kinetic-tree g) (sym e)
   whole fresh old w (anew f) = (λ i. grown g (f i) old w) ∙ guides g lawful .anew w old
-
-  -- a tally along such nodes is that of the whole tree
-  pub surveys : (fresh : Fresh) (old : List Node) (w : Walk) (r : Tally) → Tallies g fresh old w r → Suffices g fresh old w → Surveys g w r
-  surveys fresh old w r t s =
-      let e = whole fresh old w s in
-      record { count = t .count ∙ ap (λ x. length (nodes 1 x)) e; least = t .least ∙ ap (λ x. least-cost (orders-of w (w .bookings) (nodes 1 x))) e }

@@ -6,6 +6,7 @@ pub mod Counts
 pub mod Tallies
 pub mod Turns
 pub mod Changed
+pub mod Surveyed
 pub mod Pasted
 pub mod Stacks
 pub mod Replacing

@@ -1,18 +1,23 @@
 -- Shows that the own slab takes over what was grown in the working slab, and then holds the tree.
 use mathlib.Core.Path.{_≡_, refl, sym, ap, subst, _∙_}
-use mathlib.Core.List.{List, _++_}
+use mathlib.Core.List.{List, []}
 use Prim.Native.Nat.{ℕ, _+_, _-_, _≤_}
 use native.Mathlib.Omega.{arith}
-use lib.ListN.{length, replicate}
+use lib.ListN.{length, take, drop, replicate}
+use Rattle.std.specs.Options.{valueOr}
+use Rattle.std.specs.declared.option.Option.the-variants.{Some, None}
 use Rattle.std.proofs.shelf.Lists.{length-append, length-replicate}
 use Rattle.orders.specs.declared.Node.{Node}
 use Rattle.orders.specs.Rules.{Rules, Lawful}
 use Rattle.orders.specs.Walks.{Walk}
 use Rattle.orders.specs.Trees.{nodes}
 use Rattle.orders.specs.Slabs.{blank, slab}
+use Rattle.orders.specs.Growth.{seek}
+use Rattle.orders.specs.Laws.{below-root}
 use Rattle.growth.specs.declared.guide.Fresh.{Fresh}
+use Rattle.growth.specs.declared.guide.Guide.{Guide}
 use Rattle.growth.specs.declared.memory.Slabs.{Slabs}
-use Rattle.growth.specs.Guides.{row, grown-row}
+use Rattle.growth.specs.Guides.{row, row-at, Found, grown-row}
 use Rattle.growth.specs.Changes.{Suffices}
 use Rattle.growth.specs.Memory.{pasted}
 use Rattle.growth.specs.Slabs.{Laid, Replaced, Holds}
@@ -99,5 +104,22 @@ copied-over memory s laid count fits memory₁ memory₂ after e₁ e₂ e₃ =
 
 -- the own slab then holds the tree, if the old nodes sufficed
 pub now-holds : (g : Rules) (lawful : Lawful g) (fresh : Fresh) (old : List Node) (w : Walk) (memory : List Node) (s : Slabs) (after : List Node) →
-    Replaced memory s (grown-row g fresh old w) after → Suffices g fresh old w → Holds g after (s .own) (s .size) w
+    Replaced memory s (grown-row g fresh old w) after → Suffices g fresh old w → Holds g after s w
 now-holds g lawful fresh old w memory s after r enough = r .own ∙ ap (λ t. slab (s .size) (nodes 1 t)) (whole g lawful fresh old w enough)
+
+-- the same along nodes that are those old nodes
+pub replaced-along : (g : Rules) (lawful : Lawful g) (fresh : Fresh) (old read : List Node) (w : Walk) (memory : List Node) (s : Slabs) (after : List Node) (count : ℕ) → read ≡ old →
+    Replaced memory s (grown-row g fresh read w) after → count ≡ length (grown-row g fresh read w) →
+    Replaced memory s (grown-row g fresh old w) after × (count ≡ length (grown-row g fresh old w)) × (Suffices g fresh old w → Holds g after s w)
+replaced-along g lawful fresh old read w memory s after count e r c =
+    let r′ = subst (λ o. Replaced memory s (grown-row g fresh o w) after) e r in
+    (r′, c ∙ ap (λ o. length (grown-row g fresh o w)) e, now-holds g lawful fresh old w memory s after r′)
+
+-- the nodes below a root, if it was found, and none if it was not
+pub below-found : (memory : List Node) (n : ℕ) (old : List Node) (h : Guide) → Found memory (seek (length old) n old) (Some h) → row-at memory h ≡ below-root n old
+below-found memory n old h f = ap (λ o. valueOr o []) (sym (f .0))
+
+pub below-none : (memory : List Node) (n : ℕ) (old : List Node) (at : ℕ) → Found memory (seek (length old) n old) None → row memory at at ≡ below-root n old
+below-none memory n old at f =
+    let e : at - at ≡ 0 = omega arith in
+    ap (λ k. take k (drop at memory)) e ∙ ap (λ o. valueOr o []) (sym f)

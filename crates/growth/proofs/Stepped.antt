@@ -1,11 +1,11 @@
 -- Shows that a step from a position is a step of its walk.
 use mathlib.Core.Path.{_≡_, refl, sym, ap, subst, _∙_}
-use mathlib.Core.Bool.{Bool, true, false, cond, _&&_}
-use mathlib.Core.Logic.{_⊎_, inl, inr, ⊎-elim}
-use mathlib.Core.List.{List, [], _∷_, _++_}
+use mathlib.Core.Bool.{Bool, true, false, _&&_}
+use mathlib.Core.Logic.{inl, inr, ⊎-elim}
+use mathlib.Core.List.{List, [], _∷_}
 use Prim.Native.Nat.{ℕ, zero, suc, _+_, _≤_, _<_, max}
 use native.Mathlib.Omega.{arith}
-use lib.Dec.{eqb, leb, ltb}
+use lib.Dec.{leb, ltb}
 use lib.ListN.{length, getD, drop, set, length-set}
 use Rattle.std.specs.Options.{isSome}
 use Rattle.std.specs.declared.option.Option.{Option}
@@ -20,14 +20,14 @@ use Rattle.orders.specs.declared.Stop.{Stop}
 use Rattle.orders.specs.declared.Booking.{Booking}
 use Rattle.orders.specs.declared.Booking.the-variants.{Waiting, Aboard}
 use Rattle.orders.specs.Rules.{Rules}
-use Rattle.orders.specs.Bookings.{In, number-of, next-stop, remaining, served, loads, stops, Ascending}
+use Rattle.orders.specs.Bookings.{In, number-of, next-stop, served, loads, stops, Ascending}
 use Rattle.orders.specs.Walks.{Walk, departs, leg, service, after, within-limits, Allowed}
 use Rattle.orders.specs.Trees.{step}
 use Rattle.orders.proofs.Basics.{none-some, some-same}
 use Rattle.orders.proofs.Steps.{departs-later, served-ascending, served-stops, above-in, step-cases}
 use Rattle.growth.specs.declared.walk.Position.{Position}
 use Rattle.growth.specs.declared.walk.Visit.{Visit}
-use Rattle.growth.specs.Positions.{compact, walk-of, Sound, left-of, limits-kept, Visited}
+use Rattle.growth.specs.Positions.{compact, walk-of, Sound, left-of, fit-together, limits-kept, Visited}
 
 -- one turn of stowing the loads aboard, from the i-th booking on; r is what all of them come to
 module _ {Hold : Type 0} (stow : Hold → Load → Option Hold) (h : Hold) (bs : List (Option Booking)) (i : ℕ) (r : Option Hold) (left : stowed stow h (loads (compact (drop i bs))) ≡ r) where
@@ -102,10 +102,10 @@ module _ (g : Rules) where
     open-same = served-ith (p .bookings) i b now-driven (sound .ascending) its
 
     -- the limits are judged over the bookings as they then stand
-    limits-same : (c : Booking) → b ≡ c → within-limits g (walk-of p) c ≡ limits-kept (g .stow) (g .empty) c now-driven (compact now-open)
+    limits-same : (c : Booking) → b ≡ c → within-limits g (walk-of p) c ≡ limits-kept g c now-driven (compact now-open)
     limits-same (Waiting pickup j) e =
-        ap (λ x. isSome (stowed (g .stow) (g .empty) (loads (after g (walk-of p) x .bookings)))) (sym e)
-        ∙ ap (λ l. isSome (stowed (g .stow) (g .empty) (loads l))) open-same
+        ap (λ x. fit-together g (after g (walk-of p) x .bookings)) (sym e)
+        ∙ ap (fit-together g) open-same
     limits-same (Aboard since j) e = ap (λ x. leb (after g (walk-of p) x .driven) (since + j .«ride_limit»)) (sym e)
 
     abbrev visit : Visit
@@ -149,16 +149,16 @@ module _ (g : Rules) where
           left-is : o ≡ left-of now-driven b
           left-is = o-is ∙ ap (λ x. left-of (p .driven + x) b) (road .2)
 
-          limits-are : limits-kept (g .stow) (g .empty) b (p .driven + seconds) (compact (set (p .bookings) i o)) ≡ within-limits g (walk-of p) b
+          limits-are : limits-kept g b (p .driven + seconds) (compact (set (p .bookings) i o)) ≡ within-limits g (walk-of p) b
           limits-are =
-              ap (λ x. limits-kept (g .stow) (g .empty) b (p .driven + x) (compact (set (p .bookings) i o))) (road .2)
-              ∙ ap (λ x. limits-kept (g .stow) (g .empty) b now-driven (compact (set (p .bookings) i x))) left-is
+              ap (λ x. limits-kept g b (p .driven + x) (compact (set (p .bookings) i o))) (road .2)
+              ∙ ap (λ x. limits-kept g b now-driven (compact (set (p .bookings) i x))) left-is
               ∙ sym (limits-same b refl)
 
-          pub step-beyond : (t : Bool) → t ≡ limits-kept (g .stow) (g .empty) b (p .driven + seconds) (compact (set (p .bookings) i o)) → t ≡ false → step g (walk-of p) b ≡ None
+          pub step-beyond : (t : Bool) → t ≡ limits-kept g b (p .driven + seconds) (compact (set (p .bookings) i o)) → t ≡ false → step g (walk-of p) b ≡ None
           step-beyond t e f = step-no (walk-of p) b (λ a. both-ways (within-limits g (walk-of p) b) (sym limits-are ∙ sym e ∙ f) (a .limits))
 
-          pub step-taken : (t : Bool) → t ≡ limits-kept (g .stow) (g .empty) b (p .driven + seconds) (compact (set (p .bookings) i o)) → t ≡ true → (leaves : ℕ) → leaves ≡ departs second →
+          pub step-taken : (t : Bool) → t ≡ limits-kept g b (p .driven + seconds) (compact (set (p .bookings) i o)) → t ≡ true → (leaves : ℕ) → leaves ≡ departs second →
               Visited g p b (record { second = second; position = record { place = its-stop .place; second = leaves; driven = p .driven + seconds; cost = p .cost + seconds; bookings = set (p .bookings) i o } })
           step-taken t e f leaves l =
               let place-is = ap (λ s. s .place) stop-is in

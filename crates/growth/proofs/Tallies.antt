@@ -1,6 +1,6 @@
 -- Shows what one stop more adds to the nodes of a tree, to their number and to the least cost.
 use mathlib.Core.Path.{_≡_, refl, sym, ap, subst, _∙_}
-use mathlib.Core.Bool.{Bool, true, false, cond}
+use mathlib.Core.Bool.{true, false}
 use mathlib.Core.List.{List, [], _∷_, _++_, map}
 use Prim.Native.Nat.{ℕ, zero, suc, pred, _+_, min}
 use native.Mathlib.Omega.{arith}

@@ -8,7 +8,6 @@ use lib.ListN.{length}
 use Rattle.std.specs.Options.{isSome}
 use Rattle.std.specs.declared.option.Option.{Option}
 use Rattle.std.specs.declared.option.Option.the-variants.{Some, None}
-use Rattle.stowage.specs.declared.Load.{Load}
 use Rattle.stowage.specs.Together.{stowed}
 use Rattle.orders.specs.declared.Booking.{Booking}
 use Rattle.orders.specs.declared.Booking.the-variants.{Waiting, Aboard}
@@ -41,10 +40,14 @@ abbrev pub left-of : ℕ → Booking → Option Booking
 left-of driven (Waiting pickup j) = Some (Aboard driven j)
 left-of driven (Aboard since j) = None
 
--- at a pickup all loads of the bookings then aboard fit together; at a drop-off the ride is within its limit
-abbrev pub limits-kept : {Hold : Type 0} → (Hold → Load → Option Hold) → Hold → Booking → ℕ → List Booking → Bool
-limits-kept stow empty (Waiting pickup j) driven bs = isSome (stowed stow empty (loads bs))
-limits-kept stow empty (Aboard since j) driven bs = leb driven (since + j .«ride_limit»)
+-- all loads aboard fit together, from the empty hold
+abbrev pub fit-together : Rules → List Booking → Bool
+fit-together g bs = isSome (stowed (g .stow) (g .empty) (loads bs))
+
+-- at a pickup all loads then aboard fit together; at a drop-off the ride is within its limit
+abbrev pub limits-kept : Rules → Booking → ℕ → List Booking → Bool
+limits-kept g (Waiting pickup j) driven bs = fit-together g bs
+limits-kept g (Aboard since j) driven bs = leb driven (since + j .«ride_limit»)
 
 -- b's next stop is served next: at this second, and from this position the walk goes on
 pub record Visited (g : Rules) (p : Position) (b : Booking) (v : Visit) : Type 0 where

@@ -29,14 +29,18 @@ pub record Roomy (size : ℕ) (bs : List Booking) : Type 0 where
   pub most : limit ≤ 4
   pub enough : slab-size limit ≤ size
 
--- a slab holds the tree of a van: its nodes, then blanks
-abbrev pub Holds : Rules → List Node → ℕ → ℕ → Walk → Type 0
-Holds g memory at size w = row memory at (at + size) ≡ slab size (tree-row g w)
+-- the nodes of the own slab
+abbrev pub own-slab : List Node → Slabs → List Node
+own-slab memory s = row memory (s .own) (s .own + s .size)
+
+-- the own slab holds the tree of a van: its nodes, then blanks
+abbrev pub Holds : Rules → List Node → Slabs → Walk → Type 0
+Holds g memory s w = own-slab memory s ≡ slab (s .size) (tree-row g w)
 
 -- the memory after: the own slab has these nodes, then blanks, and the working slab is blank; nothing else is written
 pub record Replaced (memory : List Node) (s : Slabs) (xs : List Node) (after : List Node) : Type 0 where
   pub written : after ≡ pasted (pasted memory (s .own) (slab (s .size) xs)) (s .work) (replicate (s .size) blank)
-  pub own : row after (s .own) (s .own + s .size) ≡ slab (s .size) xs
+  pub own : own-slab after s ≡ slab (s .size) xs
   pub work : row after (s .work) (s .work + s .size) ≡ replicate (s .size) blank
   pub before : (from to : ℕ) → from ≤ to → to ≤ s .own → row after from to ≡ row memory from to
   pub between : (from to : ℕ) → s .own + s .size ≤ from → from ≤ to → to ≤ s .work → row after from to ≡ row memory from to

@@ -1,6 +1,7 @@
 -- Defines the tally of a tree: how many nodes it has, and the least cost of its orders.
 use mathlib.Core.Path.{_≡_}
 use mathlib.Core.Bool.{Bool, true, false}
+use mathlib.Core.Logic.{_↔_}
 use mathlib.Core.List.{List, [], _∷_}
 use Prim.Native.Nat.{ℕ, min}
 use lib.ListN.{length}
@@ -11,7 +12,7 @@ use Rattle.orders.specs.declared.Booking.{Booking}
 use Rattle.orders.specs.declared.Node.{Node}
 use Rattle.orders.specs.Rules.{Rules}
 use Rattle.orders.specs.Walks.{Walk}
-use Rattle.orders.specs.Orders.{Order, cheapest}
+use Rattle.orders.specs.Orders.{Order, No-order, Least, cheapest}
 use Rattle.orders.specs.Trees.{tree-row, orders-of, valid-orders}
 use Rattle.growth.specs.declared.guide.Fresh.{Fresh}
 use Rattle.growth.specs.declared.tally.Tally.{Tally}
@@ -37,7 +38,9 @@ pub record Tallies (g : Rules) (fresh : Fresh) (old : List Node) (w : Walk) (r :
   pub count : r .count ≡ length (grown-row g fresh old w)
   pub least : r .least ≡ least-cost (orders-of w (w .bookings) (grown-row g fresh old w))
 
--- the tally of a van's kinetic tree
+-- the tally of a van's kinetic tree: the least cost is told where the van has a valid order, and none where it has none
 pub record Surveys (g : Rules) (w : Walk) (r : Tally) : Type 0 where
   pub count : r .count ≡ length (tree-row g w)
   pub least : r .least ≡ least-cost (valid-orders g w)
+  pub reached : (cost : ℕ) → (r .least ≡ Some cost) ↔ Least g w cost
+  pub none : (r .least ≡ None) ↔ No-order g w

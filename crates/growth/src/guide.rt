@@ -39,7 +39,7 @@ pub struct Branch {
     pub guide: Guide,
 }
 
-/// The part below the root of this number, from sibling to sibling by span; a span of 0 ends the search.
+/// The part below the root of this booking, going from sibling to sibling by span, up to a span of 0.
 pub(crate) fn find_child(nodes: &[Node], guide: Guide, booking: u32) -> Option<Guide>
     requires { ⌜ Inside (now nodes) guide ⌝ }
     ensures found { λ r. ⌜ Found (now (nodes .entry)) (seek (length (row-at (now (nodes .entry)) guide)) booking (row-at (now (nodes .entry)) guide)) r ⌝ }

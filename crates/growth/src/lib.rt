@@ -10,7 +10,6 @@ mod tally;
 mod walk;
 
 pub use guide::Fresh;
-pub use guide::Guide;
 pub use memory::Slabs;
 pub use memory::prune;
 pub use memory::regrow;

@@ -11,13 +11,13 @@ ghost use Rattle.growth.specs.Positions.{compact, walk-of, Sound};
 ghost use Rattle.growth.specs.Guides.{row, row-at, grown-row};
 ghost use Rattle.growth.specs.Changes.{Suffices};
 ghost use Rattle.growth.specs.Memory.{pasted};
-ghost use Rattle.growth.specs.Slabs.{slabs-at, Laid, Roomy, Replaced, Holds};
+ghost use Rattle.growth.specs.Slabs.{slabs-at, own-slab, Laid, Roomy, Replaced, Holds};
 ghost use Rattle.slab.specs.Limits.{open-limit};
 use crate::Fresh;
 use crate::Ground;
-use crate::Guide;
 use crate::Position;
 use crate::grow::grow_into;
+use crate::guide::Guide;
 use crate::guide::find_child;
 use orders::Node;
 use roads::Roads;
@@ -112,9 +112,9 @@ pub fn regrow<R: Roads, S: Stowage>(
     requires sound { ⌜ Sound position ⌝ }
     requires laid { ⌜ Laid (now nodes) slabs ⌝ }
     requires roomy { ⌜ Roomy (slabs .size) (compact (position .bookings)) ⌝ }
-    ensures replaced { λ _. ⌜ Replaced (now (nodes .entry)) slabs (grown-row (rules-of R·Roads S·Stowage (ground .entry)) fresh (row (now (nodes .entry)) (slabs .own) (slabs .own + slabs .size)) (walk-of position)) (now (nodes .exit)) ⌝ }
-    ensures count { λ r. ⌜ r ≡ length (grown-row (rules-of R·Roads S·Stowage (ground .entry)) fresh (row (now (nodes .entry)) (slabs .own) (slabs .own + slabs .size)) (walk-of position)) ⌝ }
-    ensures exact { λ _. ⌜ (Suffices (rules-of R·Roads S·Stowage (ground .entry)) fresh (row (now (nodes .entry)) (slabs .own) (slabs .own + slabs .size)) (walk-of position) → Holds (rules-of R·Roads S·Stowage (ground .entry)) (now (nodes .exit)) (slabs .own) (slabs .size) (walk-of position)) ⌝ }
+    ensures replaced { λ _. ⌜ Replaced (now (nodes .entry)) slabs (grown-row (rules-of R·Roads S·Stowage (ground .entry)) fresh (own-slab (now (nodes .entry)) slabs) (walk-of position)) (now (nodes .exit)) ⌝ }
+    ensures count { λ r. ⌜ r ≡ length (grown-row (rules-of R·Roads S·Stowage (ground .entry)) fresh (own-slab (now (nodes .entry)) slabs) (walk-of position)) ⌝ }
+    ensures exact { λ _. ⌜ (Suffices (rules-of R·Roads S·Stowage (ground .entry)) fresh (own-slab (now (nodes .entry)) slabs) (walk-of position) → Holds (rules-of R·Roads S·Stowage (ground .entry)) (now (nodes .exit)) slabs (walk-of position)) ⌝ }
 {
     let whole = Guide {
         from: slabs.own,
@@ -135,9 +135,9 @@ pub fn prune<R: Roads, S: Stowage>(
     requires sound { ⌜ Sound position ⌝ }
     requires laid { ⌜ Laid (now nodes) slabs ⌝ }
     requires roomy { ⌜ Roomy (slabs .size) (compact (position .bookings)) ⌝ }
-    ensures replaced { λ _. ⌜ Replaced (now (nodes .entry)) slabs (grown-row (rules-of R·Roads S·Stowage (ground .entry)) Nobody (below-root served (row (now (nodes .entry)) (slabs .own) (slabs .own + slabs .size))) (walk-of position)) (now (nodes .exit)) ⌝ }
-    ensures count { λ r. ⌜ r ≡ length (grown-row (rules-of R·Roads S·Stowage (ground .entry)) Nobody (below-root served (row (now (nodes .entry)) (slabs .own) (slabs .own + slabs .size))) (walk-of position)) ⌝ }
-    ensures exact { λ _. ⌜ (Suffices (rules-of R·Roads S·Stowage (ground .entry)) Nobody (below-root served (row (now (nodes .entry)) (slabs .own) (slabs .own + slabs .size))) (walk-of position) → Holds (rules-of R·Roads S·Stowage (ground .entry)) (now (nodes .exit)) (slabs .own) (slabs .size) (walk-of position)) ⌝ }
+    ensures replaced { λ _. ⌜ Replaced (now (nodes .entry)) slabs (grown-row (rules-of R·Roads S·Stowage (ground .entry)) Nobody (below-root served (own-slab (now (nodes .entry)) slabs)) (walk-of position)) (now (nodes .exit)) ⌝ }
+    ensures count { λ r. ⌜ r ≡ length (grown-row (rules-of R·Roads S·Stowage (ground .entry)) Nobody (below-root served (own-slab (now (nodes .entry)) slabs)) (walk-of position)) ⌝ }
+    ensures exact { λ _. ⌜ (Suffices (rules-of R·Roads S·Stowage (ground .entry)) Nobody (below-root served (own-slab (now (nodes .entry)) slabs)) (walk-of position) → Holds (rules-of R·Roads S·Stowage (ground .entry)) (now (nodes .exit)) slabs (walk-of position)) ⌝ }
 {
     let whole = Guide {
         from: slabs.own,

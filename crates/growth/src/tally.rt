@@ -5,11 +5,13 @@ ghost use Rattle.growth.specs.Grounds.{rules-of};
 ghost use Rattle.growth.specs.Positions.{compact, walk-of, Sound};
 ghost use Rattle.growth.specs.Guides.{row-at, Inside};
 ghost use Rattle.growth.specs.Changes.{Suffices};
+ghost use Rattle.growth.specs.Slabs.{own-slab, Laid};
 ghost use Rattle.growth.specs.Surveys.{none-open, lesser, Tallies, Surveys};
 use crate::Fresh;
 use crate::Ground;
-use crate::Guide;
 use crate::Position;
+use crate::Slabs;
+use crate::guide::Guide;
 use crate::guide::branch_off;
 use orders::Booking;
 use orders::Node;
@@ -85,14 +87,18 @@ pub(crate) fn tally_along<R: Roads, S: Stowage>(
 pub fn survey<R: Roads, S: Stowage>(
     ground: Ground<R, S>,
     nodes: &[Node],
-    slab: Guide,
+    slabs: Slabs,
     position: Position,
     fresh: Fresh,
 ) -> Tally
     requires sound { ⌜ Sound position ⌝ }
-    requires inside { ⌜ Inside (now nodes) slab ⌝ }
-    ensures tallies { λ r. ⌜ Tallies (rules-of R·Roads S·Stowage (ground .entry)) fresh (row-at (now (nodes .entry)) slab) (walk-of position) r ⌝ }
-    ensures exact { λ r. ⌜ (Suffices (rules-of R·Roads S·Stowage (ground .entry)) fresh (row-at (now (nodes .entry)) slab) (walk-of position) → Surveys (rules-of R·Roads S·Stowage (ground .entry)) (walk-of position) r) ⌝ }
+    requires laid { ⌜ Laid (now nodes) slabs ⌝ }
+    ensures tallies { λ r. ⌜ Tallies (rules-of R·Roads S·Stowage (ground .entry)) fresh (own-slab (now (nodes .entry)) slabs) (walk-of position) r ⌝ }
+    ensures exact { λ r. ⌜ (Suffices (rules-of R·Roads S·Stowage (ground .entry)) fresh (own-slab (now (nodes .entry)) slabs) (walk-of position) → Surveys (rules-of R·Roads S·Stowage (ground .entry)) (walk-of position) r) ⌝ }
 {
-    tally_along(ground, nodes, fresh, slab, position)
+    let whole = Guide {
+        from: slabs.own,
+        to: slabs.own + slabs.size,
+    };
+    tally_along(ground, nodes, fresh, whole, position)
 }

@@ -3,13 +3,12 @@ ghost use mathlib.Core.Path.{_≡_};
 ghost use mathlib.Core.List.{[], _∷_};
 ghost use Prim.Native.Nat.{_<_};
 ghost use lib.ListN.{getD};
-ghost use Rattle.std.specs.Options.{isSome};
 ghost use Rattle.std.specs.declared.option.Option.the-variants.{Some, None};
 ghost use Rattle.stowage.specs.Together.{stowed};
 ghost use Rattle.orders.specs.Bookings.{number-of, next-stop, stop-kind, loads};
 ghost use Rattle.orders.specs.Walks.{departs};
 ghost use Rattle.growth.specs.Grounds.{rules-of};
-ghost use Rattle.growth.specs.Positions.{compact, left-of, limits-kept, Sound, Stepped};
+ghost use Rattle.growth.specs.Positions.{compact, left-of, fit-together, limits-kept, Sound, Stepped};
 use crate::Ground;
 use orders::Booking;
 use orders::Stop;
@@ -99,7 +98,7 @@ fn stow_aboard<R: Roads, S: Stowage>(
 
 /// Whether all loads aboard fit together.
 fn fits<R: Roads, S: Stowage>(ground: Ground<R, S>, bookings: &[Option<Booking>]) -> bool
-    ensures { λ r. ⌜ r ≡ isSome (stowed (S·Stowage .stow (now (ground .entry .rule))) (S·Stowage .empty (now (ground .entry .rule))) (loads (compact (now (bookings .entry))))) ⌝ }
+    ensures { λ r. ⌜ r ≡ fit-together (rules-of R·Roads S·Stowage (ground .entry)) (compact (now (bookings .entry))) ⌝ }
 {
     let mut hold = ground.rule.empty();
     for booking in bookings {
@@ -118,12 +117,14 @@ fn within_limits<R: Roads, S: Stowage>(
     driven: u32,
     bookings: &[Option<Booking>],
 ) -> bool
-    ensures { λ r. ⌜ r ≡ limits-kept (S·Stowage .stow (now (ground .entry .rule))) (S·Stowage .empty (now (ground .entry .rule))) booking driven (compact (now (bookings .entry))) ⌝ }
+    ensures { λ r. ⌜ r ≡ limits-kept (rules-of R·Roads S·Stowage (ground .entry)) booking driven (compact (now (bookings .entry))) ⌝ }
 {
     match booking {
         Booking::Waiting { .. } => fits(ground, bookings),
-        Booking::Aboard { since, journey } => driven as u64
-            <= since as u64 + journey.ride_limit as u64,
+        Booking::Aboard { since, journey } => {
+            let longest = since as u64 + journey.ride_limit as u64;
+            driven as u64 <= longest
+        }
     }
 }
 

@@ -1,5 +1,5 @@
+-- A turn leaves the top frame, passes over its next booking, or stores a node.
 use mathlib.Core.List.{[]}
-use Prim.Native.Nat.{_<_}
 use native.Mathlib.Omega.{arith}
 use denote.Ref.{now}
 use Rattle.growth.specs.Grounds.{rules-of}

@@ -1,3 +1,4 @@
+-- The walk begins with one frame that owes the whole row, and ends with none.
 use mathlib.Core.Path.{refl, ap}
 use native.Mathlib.Omega.{arith}
 use lib.ListN.{length}

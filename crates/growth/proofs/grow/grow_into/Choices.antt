@@ -1,3 +1,4 @@
+-- What is written and what the frames owe make the whole row; each turn stores a node or tries one booking more.
 use Prim.Native.Nat.{_+_, _*_}
 use lib.ListN.{length, take}
 use Rattle.growth.specs.Grounds.{rules-of}

@@ -1,3 +1,4 @@
+-- The next booking gives its node and what grows below it, or nothing.
 use mathlib.Core.Path.{refl, ap}
 use native.Mathlib.Omega.{arith}
 use denote.Ref.{now}

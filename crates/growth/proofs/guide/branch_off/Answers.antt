@@ -1,3 +1,4 @@
+-- Each way out says what the booking's next stop adds to what grows.
 use denote.Ref.{now}
 use Rattle.growth.specs.Grounds.{rules-of}
 use Rattle.growth.specs.Positions.{walk-of}

@@ -1,3 +1,4 @@
+-- At each node the search stops, has found the booking, or goes on behind the node's span.
 use mathlib.Core.Path.{_≡_, sym, ap, _∙_}
 use Prim.Native.Nat.{_+_, _-_, min}
 use native.Mathlib.Omega.{arith}

@@ -1,3 +1,4 @@
+-- The search goes from sibling to sibling, up to the guide's end.
 use mathlib.Core.Path.{_≡_}
 use Prim.Native.Nat.{_-_, _≤_}
 use lib.ListN.{length}

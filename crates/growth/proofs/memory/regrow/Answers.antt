@@ -1,17 +1,15 @@
-use Prim.Native.Nat.{_+_}
+-- Along a slab that suffices the kinetic tree grows.
 use denote.Ref.{now}
 use Rattle.growth.specs.Grounds.{rules-of}
 use Rattle.growth.specs.Positions.{walk-of}
-use Rattle.growth.specs.Guides.{row}
+use Rattle.growth.specs.Slabs.{own-slab}
 use Rattle.growth.proofs.Replacing.{now-holds}
 use Rattle.growth.proofs.memory.regrow.Needs as need
 
 pub returns : need.returns
-returns g c =
-    let slabs = c .args .slabs in
-    record {
-      replaced = c .regrow-along .ensures .replaced;
-      count = c .regrow-along .ensures .count;
-      exact = now-holds (rules-of (g .R·Roads) (g .S·Stowage) (c .args .ground)) (record { roads = g .R·Roads·met .lawful (now (c .args .ground .roads)); exchange = g .S·Stowage·met .exchange (now (c .args .ground .rule)) })
-          (c .args .fresh) (row (c .args .nodes .now) (slabs .own) (slabs .own + slabs .size)) (walk-of (c .args .position)) (c .args .nodes .now) slabs (c .regrow-along .last .nodes) (c .regrow-along .ensures .replaced);
-    }
+returns g c = record {
+  replaced = c .regrow-along .ensures .replaced;
+  count = c .regrow-along .ensures .count;
+  exact = now-holds (rules-of (g .R·Roads) (g .S·Stowage) (c .args .ground)) (record { roads = g .R·Roads·met .lawful (now (c .args .ground .roads)); exchange = g .S·Stowage·met .exchange (now (c .args .ground .rule)) })
+      (c .args .fresh) (own-slab (c .args .nodes .now) (c .args .slabs)) (walk-of (c .args .position)) (c .args .nodes .now) (c .args .slabs) (c .regrow-along .last .nodes) (c .regrow-along .ensures .replaced);
+}

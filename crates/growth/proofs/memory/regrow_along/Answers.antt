@@ -1,4 +1,4 @@
-use mathlib.Core.Path.{_≡_}
+-- What grows fits the slab, and the own slab takes it over.
 use native.Mathlib.Omega.{arith}
 use Rattle.growth.specs.Grounds.{rules-of}
 use Rattle.growth.specs.Positions.{walk-of}

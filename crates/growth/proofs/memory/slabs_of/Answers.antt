@@ -1,4 +1,4 @@
--- The places of slabs are small numbers.
+-- The places of slabs are small numbers, and a slab ends where the next begins.
 use mathlib.Core.Path.{sym, ap, subst}
 use native.Mathlib.Omega.{arith}
 use Rattle.orders.specs.Slabs.{slab-size}

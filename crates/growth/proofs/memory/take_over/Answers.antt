@@ -1,3 +1,4 @@
+-- Copied, filled up with blanks, and the working slab cleared.
 use Rattle.growth.proofs.Replacing.{copied-over}
 use Rattle.growth.proofs.memory.take_over.Needs as need
 

@@ -1,3 +1,4 @@
+-- Each turn adds the tally of one booking's next stop, or nothing.
 use native.Mathlib.Omega.{arith}
 use mathlib.Core.Path.{_∙_}
 use denote.Ref.{now}

@@ -1,3 +1,4 @@
+-- The calls end with the open stops, and the turns join the tallies of the bookings.
 use lib.ListN.{drop}
 use Rattle.orders.specs.Bookings.{stops}
 use Rattle.growth.specs.Grounds.{rules-of}

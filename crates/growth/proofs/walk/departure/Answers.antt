@@ -1,3 +1,4 @@
+-- Service takes no time.
 use mathlib.Core.Path.{sym}
 use Rattle.orders.proofs.Steps.{departs-at-once}
 use Rattle.growth.proofs.walk.departure.Needs as need

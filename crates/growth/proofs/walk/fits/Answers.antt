@@ -1,3 +1,4 @@
+-- Each turn stows the load of one booking.
 use denote.Ref.{now}
 use Rattle.growth.proofs.Stepped.{turn-some, turn-none, turn-last}
 use Rattle.growth.proofs.walk.fits.Needs as need

@@ -1,3 +1,4 @@
+-- The loads that are stowed so far, and those yet to come.
 use mathlib.Core.Path.{_≡_}
 use denote.Ref.{now}
 use lib.ListN.{drop}

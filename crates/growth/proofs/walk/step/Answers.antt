@@ -1,3 +1,4 @@
+-- Each way out of a step is what its walk's step answers.
 use Rattle.growth.specs.Grounds.{rules-of}
 use Rattle.growth.proofs.Stepped.{step-unknown, step-late, step-beyond, step-taken}
 use Rattle.growth.proofs.walk.step.Needs as need
