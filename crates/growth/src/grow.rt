@@ -14,7 +14,6 @@ use crate::guide::Guide;
 use crate::guide::branch_off;
 use crate::tally::tally_along;
 use crate::walk::kind;
-use crate::walk::number;
 use orders::Node;
 use roads::Roads;
 use stowage::Stowage;
@@ -77,7 +76,7 @@ fn try_next<R: Roads, S: Stowage>(
     };
     Some(Growth {
         node: Node {
-            booking: number(booking),
+            booking: booking.number(),
             kind: kind(booking),
             depth,
             span: 1 + below.count,

@@ -9,7 +9,6 @@ ghost use Rattle.growth.specs.Positions.{Sound};
 ghost use Rattle.growth.specs.Guides.{new-to, row-at, Inside, Found, EndsBy, Branches};
 use crate::Ground;
 use crate::Position;
-use crate::walk::number;
 use crate::walk::step;
 use orders::Booking;
 use orders::Node;
@@ -103,7 +102,7 @@ pub(crate) fn branch_off<R: Roads, S: Stowage>(
     requires inside { ⌜ Inside (now nodes) guide ⌝ }
     ensures { λ r. ⌜ Branches (rules-of R·Roads S·Stowage (ground .entry)) fresh (now (nodes .entry)) guide position booking r ⌝ }
 {
-    match look_on(nodes, fresh, guide, number(booking)) {
+    match look_on(nodes, fresh, guide, booking.number()) {
         Some(guide) => match step(ground, position, i, booking) {
             Some(visit) => Some(Branch {
                 second: visit.second,

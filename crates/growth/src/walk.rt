@@ -5,7 +5,7 @@ ghost use Prim.Native.Nat.{_<_};
 ghost use lib.ListN.{getD};
 ghost use Rattle.std.specs.declared.option.Option.the-variants.{Some, None};
 ghost use Rattle.stowage.specs.Together.{stowed};
-ghost use Rattle.orders.specs.Bookings.{number-of, next-stop, stop-kind, loads};
+ghost use Rattle.orders.specs.Bookings.{next-stop, stop-kind, loads};
 ghost use Rattle.orders.specs.Walks.{departs};
 ghost use Rattle.growth.specs.Grounds.{rules-of};
 ghost use Rattle.growth.specs.Positions.{compact, left-of, fit-together, limits-kept, Sound, Stepped};
@@ -30,16 +30,6 @@ pub struct Position {
 pub struct Visit {
     pub second: u32,
     pub position: Position,
-}
-
-/// A booking's number.
-pub(crate) fn number(booking: Booking) -> u32
-    ensures { λ r. ⌜ r ≡ number-of booking ⌝ }
-{
-    match booking {
-        Booking::Waiting { journey, .. } => journey.number,
-        Booking::Aboard { journey, .. } => journey.number,
-    }
 }
 
 /// 0 where a booking's next stop is a pickup, 1 where it is a drop-off.

@@ -1,5 +1,7 @@
 //! The valid orders of a van's open stops and the kinetic tree that holds them: what they are, in specs/, and the laws
 //! that everything above rests on, each named by the contract of a function.
+ghost use mathlib.Core.Path.{_≡_};
+ghost use Rattle.orders.specs.Bookings.{number-of};
 ghost use Rattle.orders.specs.Rules.{rules};
 ghost use Rattle.orders.specs.Laws.{Exact-orders, Exact-nodes, Exact-seconds, Thins, Moves, Guides, Fits-slab, Fills-slab, Numbers, Determined, One-winner};
 use roads::Roads;
@@ -32,6 +34,18 @@ pub struct Journey {
 pub enum Booking {
     Waiting { pickup: Stop, journey: Journey },
     Aboard { since: u32, journey: Journey },
+}
+
+impl Booking {
+    /// The booking's number.
+    pub fn number(self) -> u32
+        ensures { λ r. ⌜ r ≡ number-of self ⌝ }
+    {
+        match self {
+            Booking::Waiting { journey, .. } => journey.number,
+            Booking::Aboard { journey, .. } => journey.number,
+        }
+    }
 }
 
 /// A stop in a tree: its booking, 0 for a pickup or 1 for a drop-off, its depth from 1, the number of nodes that are it
