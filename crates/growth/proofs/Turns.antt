@@ -82,10 +82,10 @@ module _ (g : Rules) (fresh : Fresh) (memory : List Node) (h : Guide) (p : Posit
             (walk-of (x .position)) (row-at memory (x .guide)) r t (branched .stands) e
 
         module _ (cost : ℕ) (e : r .least ≡ Some cost) where
-          pub one-more : (count count′ : ℕ) (least least′ : Option ℕ) → count′ ≡ count + (1 + r .count) → least′ ≡ lesser least (Some cost) → Tallied i count least → Tallied (i + 1) count′ least′
-          one-more =
+          pub one-more : (count count′ : ℕ) (least least′ joined : Option ℕ) → count′ ≡ count + (1 + r .count) → least′ ≡ joined → joined ≡ lesser least (Some cost) → Tallied i count least → Tallied (i + 1) count′ least′
+          one-more count count′ least least′ joined c l j so-far =
               tallies.tallied-more g fresh (row-at memory h) (walk-of p) b (x .second) (compact (drop i bookings)) (compact (drop (i + 1) bookings)) first
-              (walk-of (x .position)) (row-at memory (x .guide)) r t (branched .stands) cost e
+              (walk-of (x .position)) (row-at memory (x .guide)) r t (branched .stands) cost e count count′ least least′ c (l ∙ j) so-far
 
           -- the node of the stop, what all bookings give from its position on, and what the next ones give here
           pub one-node : (d n k : ℕ) → n ≡ number-of b → k ≡ stop-kind b →

@@ -8,7 +8,6 @@ use crate::pair::stop;
 use crate::pair::waiting;
 use growth::Fresh;
 use growth::Ground;
-use growth::Guide;
 use growth::Position;
 use growth::Slabs;
 use growth::Tally;
@@ -101,6 +100,5 @@ pub fn grow_three(ground: Ground<DottedRoads, Parcels>, nodes: &mut [Node]) -> u
 pub fn survey_four(ground: Ground<DottedRoads, Parcels>, nodes: &[Node]) -> Tally
     requires { ⌜ length (now nodes) ≡ 14728 ⌝ }
 {
-    let slab = Guide { from: 0, to: SIZE };
-    survey(ground, nodes, slab, position(4), Fresh::Only(4))
+    survey(ground, nodes, SLABS, position(4), Fresh::Only(4))
 }

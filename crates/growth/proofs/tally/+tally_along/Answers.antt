@@ -1,6 +1,6 @@
 -- Each turn adds the tally of one booking's next stop, or nothing.
+use Prim.Native.Nat.{_<_}
 use native.Mathlib.Omega.{arith}
-use mathlib.Core.Path.{_∙_}
 use denote.Ref.{now}
 use Rattle.growth.specs.Grounds.{rules-of}
 use Rattle.growth.specs.Positions.{walk-of}
@@ -31,30 +31,32 @@ add-count-in-Some-reached g t c =
     omega arith
 
 pub loop-i-again : need.loop-i-again
-loop-i-again g t c = elim (c .match-candidate .came) [
-  | in-Some·in-Some-branch-off·in-Some-reached w ↦
-      one-more (rules-of (g .R·Roads) (g .S·Stowage) (c .args .ground)) (c .args .fresh) (now (c .args .nodes)) (c .args .guide) (c .args .position) (c .pre .sound) (c .loop-i .i) (c .loop-i-test .taken)
-      (w .in-Some .booking) (w .in-Some .is) (w .in-Some-branch-off .branch) (w .in-Some-branch-off .ensures tt) (w .tally-along-below .result) (w .tally-along-below .ensures)
-      (w .in-Some-reached .cost) (w .in-Some-reached .is)
-      (c .loop-i .count) (c .match-candidate .count) (c .loop-i .least) (c .match-candidate .least) (w .count-is) (w .least-is ∙ w .least-with-least .ensures) (c .loop-i .inv)
-  | in-Some·in-Some-branch-off·in-rest-reached w ↦
-      nothing-more (rules-of (g .R·Roads) (g .S·Stowage) (c .args .ground)) (c .args .fresh) (now (c .args .nodes)) (c .args .guide) (c .args .position) (c .pre .sound) (c .loop-i .i) (c .loop-i-test .taken)
-      (c .loop-i .count) (c .match-candidate .count) (c .loop-i .least) (c .match-candidate .least)
-      (dead-end (rules-of (g .R·Roads) (g .S·Stowage) (c .args .ground)) (c .args .fresh) (now (c .args .nodes)) (c .args .guide) (c .args .position) (c .pre .sound) (c .loop-i .i) (c .loop-i-test .taken)
-      (w .in-Some .booking) (w .in-Some .is) (w .in-Some-branch-off .branch) (w .in-Some-branch-off .ensures tt) (w .tally-along-below .result) (w .tally-along-below .ensures) (w .in-rest-reached .is))
-      (w .count-is) (w .least-is) (c .loop-i .inv)
-  | in-Some·in-rest-branch-off w ↦
-      nothing-more (rules-of (g .R·Roads) (g .S·Stowage) (c .args .ground)) (c .args .fresh) (now (c .args .nodes)) (c .args .guide) (c .args .position) (c .pre .sound) (c .loop-i .i) (c .loop-i-test .taken)
-      (c .loop-i .count) (c .match-candidate .count) (c .loop-i .least) (c .match-candidate .least)
-      (refused (rules-of (g .R·Roads) (g .S·Stowage) (c .args .ground)) (c .args .fresh) (now (c .args .nodes)) (c .args .guide) (c .args .position) (c .pre .sound) (c .loop-i .i) (c .loop-i-test .taken)
-      (w .in-Some .booking) (w .in-Some .is) (w .in-rest-branch-off .ensures tt))
-      (w .count-is) (w .least-is) (c .loop-i .inv)
-  | in-rest w ↦
-      nothing-more (rules-of (g .R·Roads) (g .S·Stowage) (c .args .ground)) (c .args .fresh) (now (c .args .nodes)) (c .args .guide) (c .args .position) (c .pre .sound) (c .loop-i .i) (c .loop-i-test .taken)
-      (c .loop-i .count) (c .match-candidate .count) (c .loop-i .least) (c .match-candidate .least)
-      (gap (rules-of (g .R·Roads) (g .S·Stowage) (c .args .ground)) (c .args .fresh) (now (c .args .nodes)) (c .args .guide) (c .args .position) (c .pre .sound) (c .loop-i .i) (c .loop-i-test .taken) (w .in-rest .is))
-      (w .count-is) (w .least-is) (c .loop-i .inv)
-]
+loop-i-again g t c =
+    let lt : c .loop-i .i < 4 = (let h = c .loop-i-test .taken in omega arith) in
+    elim (c .match-candidate .came) [
+      | in-Some·in-Some-branch-off·in-Some-reached w ↦
+          one-more (rules-of (g .R·Roads) (g .S·Stowage) (c .args .ground)) (c .args .fresh) (now (c .args .nodes)) (c .args .guide) (c .args .position) (c .pre .sound) (c .loop-i .i) lt
+          (w .in-Some .booking) (w .in-Some .is) (w .in-Some-branch-off .branch) (w .in-Some-branch-off .ensures tt) (w .tally-along-below .result) (w .tally-along-below .ensures)
+          (w .in-Some-reached .cost) (w .in-Some-reached .is)
+          (c .loop-i .count) (c .match-candidate .count) (c .loop-i .least) (c .match-candidate .least) (w .least-with-least .result) (w .count-is) (w .least-is) (w .least-with-least .ensures) (c .loop-i .inv)
+      | in-Some·in-Some-branch-off·in-rest-reached w ↦
+          nothing-more (rules-of (g .R·Roads) (g .S·Stowage) (c .args .ground)) (c .args .fresh) (now (c .args .nodes)) (c .args .guide) (c .args .position) (c .pre .sound) (c .loop-i .i) lt
+          (c .loop-i .count) (c .match-candidate .count) (c .loop-i .least) (c .match-candidate .least)
+          (dead-end (rules-of (g .R·Roads) (g .S·Stowage) (c .args .ground)) (c .args .fresh) (now (c .args .nodes)) (c .args .guide) (c .args .position) (c .pre .sound) (c .loop-i .i) lt
+          (w .in-Some .booking) (w .in-Some .is) (w .in-Some-branch-off .branch) (w .in-Some-branch-off .ensures tt) (w .tally-along-below .result) (w .tally-along-below .ensures) (w .in-rest-reached .is))
+          (w .count-is) (w .least-is) (c .loop-i .inv)
+      | in-Some·in-rest-branch-off w ↦
+          nothing-more (rules-of (g .R·Roads) (g .S·Stowage) (c .args .ground)) (c .args .fresh) (now (c .args .nodes)) (c .args .guide) (c .args .position) (c .pre .sound) (c .loop-i .i) lt
+          (c .loop-i .count) (c .match-candidate .count) (c .loop-i .least) (c .match-candidate .least)
+          (refused (rules-of (g .R·Roads) (g .S·Stowage) (c .args .ground)) (c .args .fresh) (now (c .args .nodes)) (c .args .guide) (c .args .position) (c .pre .sound) (c .loop-i .i) lt
+          (w .in-Some .booking) (w .in-Some .is) (w .in-rest-branch-off .ensures tt))
+          (w .count-is) (w .least-is) (c .loop-i .inv)
+      | in-rest w ↦
+          nothing-more (rules-of (g .R·Roads) (g .S·Stowage) (c .args .ground)) (c .args .fresh) (now (c .args .nodes)) (c .args .guide) (c .args .position) (c .pre .sound) (c .loop-i .i) lt
+          (c .loop-i .count) (c .match-candidate .count) (c .loop-i .least) (c .match-candidate .least)
+          (gap (rules-of (g .R·Roads) (g .S·Stowage) (c .args .ground)) (c .args .fresh) (now (c .args .nodes)) (c .args .guide) (c .args .position) (c .pre .sound) (c .loop-i .i) lt (w .in-rest .is))
+          (w .count-is) (w .least-is) (c .loop-i .inv)
+    ]
 
 pub returns : need.returns
 returns g t c =
