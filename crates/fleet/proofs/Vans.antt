@@ -11,7 +11,14 @@ use Rattle.std.specs.declared.option.Option.the-variants.{Some, None}
 use Rattle.std.proofs.shelf.Edits.{map-over-more}
 use Rattle.std.proofs.shelf.Lists.{take-all, drop-all, length-map, getD-default}
 use Rattle.orders.specs.declared.Booking.{Booking}
-use Rattle.fleet.specs.States.{open-on, holder-of}
+use Rattle.orders.specs.declared.Booking.the-variants.{Waiting}
+use Rattle.orders.specs.declared.Journey.{Journey}
+use Rattle.orders.specs.declared.Stop.{Stop}
+use Rattle.orders.specs.Bookings.{remove}
+use Rattle.growth.specs.Positions.{compact}
+use Rattle.fleet.specs.Slots.{slots}
+use Rattle.fleet.specs.States.{open-on, holder-of, of-holder, of-van, cancelled-from, cancelled-on, cancel-call, Changes}
+use Rattle.std.specs.declared.result.Result.the-variants.{Ok}
 use Rattle.fleet.specs.declared.state.State.{State}
 use Rattle.fleet.specs.declared.state.Van.{Van}
 
@@ -56,3 +63,17 @@ module _ (n : ℕ) (vs : List (Option Van)) (i : ℕ) (r : Option (ℕ × Bookin
 
   pub turn-end : length vs ≤ i → None ≡ r
   turn-end h = ap (holder-of n i) (sym (drop-all i vs h)) ∙ left
+
+-- the van with other bookings in its places
+abbrev pub with-bookings : Van → List (Option Booking) → Van
+with-bookings w held = record { place = w .place; second = w .second; driven = w .driven; bookings = held }
+
+-- the waiting booking of number n is taken off the van that holds it
+pub cancel-changes : (s : State) (n i : ℕ) (p : Stop) (j : Journey) (w : Van) (held : List (Option Booking)) →
+    holder-of n 0 (s .vans) ≡ Some (i, Waiting p j) → getD (s .vans) i None ≡ Some w → held ≡ slots (remove n (compact (w .bookings))) →
+    Changes (cancel-call s n) s (with-vans s (set (s .vans) i (Some (with-bookings w held)))) (Ok tt)
+cancel-changes s n i p j w held e f h =
+    let after = with-vans s (set (s .vans) i (Some (with-bookings w held))) in
+    let Held : Option (ℕ × Booking) → Type 0 = λ o. Changes (of-holder o (cancelled-from s n)) s after (Ok tt) in
+    let On : Option Van → Type 0 = λ o. Changes (of-van o (λ v. Ok (cancelled-on s n i v))) s after (Ok tt) in
+    subst Held (sym e) (subst On (sym f) (ap (λ l. with-vans s (set (s .vans) i (Some (with-bookings w l)))) h, refl))

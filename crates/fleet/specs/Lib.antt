@@ -1,3 +1,4 @@
 pub mod Refusals
 pub mod Slots
 pub mod States
+pub mod Sound

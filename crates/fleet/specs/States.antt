@@ -11,10 +11,14 @@ use Rattle.std.specs.declared.option.Option.the-variants.{Some, None}
 use Rattle.std.specs.declared.result.Result.{Result}
 use Rattle.std.specs.declared.result.Result.the-variants.{Ok, Err}
 use Rattle.orders.specs.declared.Booking.{Booking}
+use Rattle.orders.specs.declared.Booking.the-variants.{Waiting, Aboard}
+use Rattle.orders.specs.Bookings.{remove}
 use Rattle.fleet.specs.declared.refusal.Refusal.{Refusal}
-use Rattle.fleet.specs.declared.refusal.Refusal.the-variants.{BeyondWeek, NoSuchVan, OnDuty, OffDuty, NoSuchPlace, TooEarly, HasBookings}
+use Rattle.fleet.specs.declared.refusal.Refusal.the-variants.{BeyondWeek, NoSuchVan, OnDuty, OffDuty, NoSuchPlace, TooEarly, HasBookings, NotOpen}
+use Rattle.fleet.specs.declared.refusal.Refusal.the-variants as refusal
 use Rattle.fleet.specs.declared.state.State.{State}
 use Rattle.fleet.specs.declared.state.Van.{Van}
+use Rattle.roads.specs.Roads.{between}
 use Rattle.growth.specs.Positions.{compact}
 use Rattle.fleet.specs.Slots.{slots, numbered}
 
@@ -79,6 +83,24 @@ leave-call s v =
     check (not (isSome (getD (w .bookings) 0 None))) HasBookings
     (Ok (with-van s v None))))
 
+-- what is asked of a leg that the roads know
+abbrev pub of-leg : {X : Type 0} → Option ℕ → ℕ → (ℕ → Result X Refusal) → Result X Refusal
+of-leg None place ask = Err (NoSuchPlace place)
+of-leg (Some leg) place ask = ask leg
+
+-- a van that is bound for a place: it can next turn there, at this second, and the leg adds to what it has driven
+abbrev pub bound-for : Van → (place second leg : ℕ) → Van
+bound-for w place second leg = record { place = place; second = second; driven = w .driven + leg; bookings = w .bookings }
+
+abbrev pub bound-call : State → ℕ → (ℕ → ℕ → ℕ) → (van place time : ℕ) → Result State Refusal
+bound-call s places trip v place time =
+    check (is-van s v) NoSuchVan
+    (of-van (van-at s v) (λ w.
+    of-leg (between places trip (w .place) place) place (λ leg.
+    check (leb time week) BeyondWeek
+    (check (leb (w .second + leg) time) TooEarly
+    (Ok (with-van s v (Some (bound-for w place time leg))))))))
+
 -- an accepted call changes the state, a refused one does not
 abbrev pub Changes : Result State Refusal → State → State → Result (Unit {0}) Refusal → Type 0
 Changes (Ok s′) s after r = (after ≡ s′) × (r ≡ Ok tt)
@@ -93,3 +115,23 @@ open-on n (Some w) = numbered n (compact (w .bookings))
 abbrev pub holder-of : ℕ → ℕ → List (Option Van) → Option (ℕ × Booking)
 holder-of n i [] = None
 holder-of n i (v ∷ vs) = elim (open-on n v) [ Some b ↦ Some (i, b) | None ↦ holder-of n (i + 1) vs ]
+
+-- a van without the booking of number n
+abbrev pub relieved : ℕ → Van → Van
+relieved n w = record { place = w .place; second = w .second; driven = w .driven; bookings = slots (remove n (compact (w .bookings))) }
+
+-- the state without the booking of number n on the i-th van, from 0
+abbrev pub cancelled-on : State → ℕ → ℕ → Van → State
+cancelled-on s n i w = record { size = s .size; «open_limit» = s .«open_limit»; clock = s .clock; vans = set (s .vans) i (Some (relieved n w)) }
+
+-- a booking that waits is gone; one that is aboard stays
+abbrev pub cancelled-from : State → ℕ → ℕ → Booking → Result State Refusal
+cancelled-from s n i (Waiting pickup j) = of-van (getD (s .vans) i None) (λ w. Ok (cancelled-on s n i w))
+cancelled-from s n i (Aboard since j) = Err refusal.Aboard
+
+abbrev pub of-holder : {X : Type 0} → Option (ℕ × Booking) → (ℕ → Booking → Result X Refusal) → Result X Refusal
+of-holder None ask = Err NotOpen
+of-holder (Some h) ask = ask (h .0) (h .1)
+
+abbrev pub cancel-call : State → ℕ → Result State Refusal
+cancel-call s n = of-holder (holder-of n 0 (s .vans)) (cancelled-from s n)

@@ -3,12 +3,16 @@ ghost use mathlib.Core.Path.{_≡_};
 ghost use mathlib.Core.List.{map};
 ghost use Prim.Native.Nat.{_<_};
 ghost use lib.ListN.{length, getD, set};
+ghost use Rattle.std.specs.Slices.{found};
 ghost use Rattle.std.specs.declared.option.Option.the-variants.{None};
-ghost use Rattle.fleet.specs.States.{is-van, open-on, holder-of, waited, clock-call, join-call, leave-call, Changes};
+ghost use Rattle.fleet.specs.States.{is-van, open-on, holder-of, waited, clock-call, join-call, leave-call, bound-call, cancel-call, Changes};
+ghost use Rattle.fleet.specs.Sound.{Sound};
 use crate::Refusal;
 use crate::refusal::require;
 use crate::slots::find_booking;
+use crate::slots::remove_booking;
 use orders::Booking;
+use roads::Roads;
 
 /// The seconds of a week.
 pub const WEEK: u32 = 604_800;
@@ -95,6 +99,65 @@ impl State {
         Ok(())
     }
 
+    /// A van is bound for a place, where it can next turn at this time.
+    pub fn bound<R: Roads>(
+        &mut self,
+        roads: &R,
+        van: u32,
+        place: u32,
+        time: u32,
+    ) -> Result<(), Refusal>
+        requires { ⌜ Sound (now self) ⌝ }
+        ensures { λ r. ⌜ Changes (bound-call (now (self .entry)) (R·Roads .places (now (roads .entry))) (R·Roads .trip (now (roads .entry))) van place time) (now (self .entry)) (now (self .exit)) r ⌝ }
+    {
+        require(self.is_van(van), Refusal::NoSuchVan)?;
+        let i = van as usize - 1;
+        let Some(driving) = self.vans[i] else {
+            return Err(Refusal::OffDuty);
+        };
+        let Some(leg) = roads.seconds(driving.place, place) else {
+            return Err(Refusal::NoSuchPlace { place });
+        };
+        require(time <= WEEK, Refusal::BeyondWeek)?;
+        require(
+            u64::from(driving.second) + u64::from(leg) <= u64::from(time),
+            Refusal::TooEarly,
+        )?;
+        let bookings = driving.bookings;
+        self.vans[i] = Some(Van {
+            place,
+            second: time,
+            driven: driving.driven + leg,
+            bookings,
+        });
+        Ok(())
+    }
+
+    /// The waiting booking of this number is gone.
+    pub fn cancel(&mut self, n: u32) -> Result<(), Refusal>
+        requires { ⌜ Sound (now self) ⌝ }
+        ensures { λ r. ⌜ Changes (cancel-call (now (self .entry)) n) (now (self .entry)) (now (self .exit)) r ⌝ }
+    {
+        let Some((i, booking)) = holder(self.vans, n) else {
+            return Err(Refusal::NotOpen);
+        };
+        let Booking::Waiting { .. } = booking else {
+            return Err(Refusal::Aboard);
+        };
+        let slot = self.vans[i];
+        let Some(van) = slot else {
+            return Err(Refusal::OffDuty);
+        };
+        let bookings = remove_booking(van.bookings, n);
+        self.vans[i] = Some(Van {
+            place: van.place,
+            second: van.second,
+            driven: van.driven,
+            bookings,
+        });
+        Ok(())
+    }
+
     /// Each van on duty is at this time at least.
     fn wait_all(&mut self, time: u32)
         ensures { λ _. ⌜ now (self .exit) ≡ record { size = now (self .entry) .size; «open_limit» = now (self .entry) .«open_limit»; clock = now (self .entry) .clock; vans = map (waited time) (now (self .entry) .vans) } ⌝ }
@@ -128,10 +191,11 @@ fn open_on(van: Option<Van>, n: u32) -> Option<Booking>
 }
 
 /// The first van, by its place from 0, on which the booking of this number is open, and the booking.
-pub fn holder(vans: &[Option<Van>], n: u32) -> Option<(usize, Booking)>
-    ensures { λ r. ⌜ r ≡ holder-of n 0 (now (vans .entry)) ⌝ }
+pub fn holder(vans: [Option<Van>; 32], n: u32) -> Option<(usize, Booking)>
+    ensures value { λ r. ⌜ r ≡ holder-of n 0 vans ⌝ }
+    ensures within { λ r. ⌜ found r (λ h. h .0 < 32) ⌝ }
 {
-    for i in 0..vans.len() {
+    for i in 0..32 {
         if let Some(booking) = open_on(vans[i], n) {
             return Some((i, booking));
         }

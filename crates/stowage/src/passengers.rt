@@ -12,7 +12,7 @@ use crate::WEEK;
 use crate::Window;
 use crate::require;
 
-/// Figures: seats, wheelchairs, ready, wait, detour percent, latest arrival.
+/// Figures: seats, wheelchairs, ready, wait, detour percent, last arrival.
 #[derive(Clone, Copy, PartialEq, Eq, Debug)]
 pub struct Passengers;
 
@@ -60,13 +60,13 @@ pub impl Stowage for Passengers as PassengersStowage {
     }
 
     fn promise(&self, figures: [u32; 6], direct: u32) -> Result<Promise, BadFigure> {
-        let [seats, wheelchairs, ready, wait, percent, latest] = figures;
+        let [seats, wheelchairs, ready, wait, percent, arrive_by] = figures;
         require(seats <= 8, 1)?;
         require(wheelchairs <= 2 && (seats > 0 || wheelchairs > 0), 2)?;
         require(ready <= WEEK, 3)?;
         require(wait <= 7_200 && ready + wait <= WEEK, 4)?;
         require(percent <= 300, 5)?;
-        require(latest <= WEEK, 6)?;
+        require(arrive_by <= WEEK, 6)?;
         Ok(Promise {
             load: Load {
                 first: seats as u16,
@@ -78,7 +78,7 @@ pub impl Stowage for Passengers as PassengersStowage {
             },
             dropoff: Window {
                 opens: 0,
-                closes: latest,
+                closes: arrive_by,
             },
             ride_limit: ride_limit(direct, percent),
         })

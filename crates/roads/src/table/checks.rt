@@ -82,12 +82,12 @@ fn first_shortcut(places: u32, seconds: &[u32]) -> Option<(u8, u8, u8)>
     ensures { λ r. ⌜ Cases r (NoShortcut places (table-trip places (now (seconds .entry))) places 0 0) (λ t. FirstShortcut places (table-trip places (now (seconds .entry))) (t .0) (t .1) (t .2)) ⌝ }
 {
     let mut found = None;
-    'search: for from in 0..places {
+    'triples: for from in 0..places {
         for via in 0..places {
             for to in 0..places {
                 if is_shortcut(places, seconds, from, via, to) {
                     found = Some((from as u8, via as u8, to as u8));
-                    break 'search;
+                    break 'triples;
                 }
             }
         }

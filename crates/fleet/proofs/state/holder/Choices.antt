@@ -1,5 +1,5 @@
 use mathlib.Core.Path.{_≡_}
-use lib.ListN.{drop}
+use lib.ListN.{length, drop}
 use Rattle.fleet.specs.States.{holder-of}
 use Rattle.fleet.proofs.state.holder.Given as given
 
