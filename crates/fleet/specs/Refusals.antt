@@ -10,6 +10,7 @@ use Rattle.std.specs.declared.result.Result.the-variants.{Ok, Err}
 use Rattle.fleet.specs.declared.refusal.Refusal.{Refusal}
 use Rattle.fleet.specs.declared.refusal.Refusal.the-variants.{VanCount, OpenLimit, TooFewNodes, BeyondWeek, NoSuchVan, OnDuty, OffDuty, NoSuchPlace, TooEarly, HasBookings, BadNumber, AlreadyOpen, NotOpen, BadFigure, NoVan, Aboard, NotThere, DoesNotFit, NoOrder}
 
+-- the number by which each refusal is known
 abbrev pub refusal-number : Refusal → ℕ
 refusal-number VanCount = 1
 refusal-number OpenLimit = 2

@@ -1,4 +1,4 @@
--- Defines what the calls keep of the present state, so that no number runs over and each van has a tree.
+-- Defines a present state in which no number runs over and every van's bookings stand as they should: `bound` and `cancel` ask for it.
 use mathlib.Core.Path.{_≡_}
 use Prim.Native.Nat.{ℕ, _≤_}
 use lib.ListN.{length, getD}

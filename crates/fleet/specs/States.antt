@@ -19,12 +19,9 @@ use Rattle.fleet.specs.declared.refusal.Refusal.the-variants as refusal
 use Rattle.fleet.specs.declared.state.State.{State}
 use Rattle.fleet.specs.declared.state.Van.{Van}
 use Rattle.roads.specs.Roads.{between}
+use Rattle.stowage.specs.Figures.{week}
 use Rattle.growth.specs.Positions.{compact}
 use Rattle.fleet.specs.Slots.{slots, numbered}
-
--- the seconds of a week
-abbrev pub week : ℕ
-week = 604800
 
 -- a check that refuses, or goes on
 abbrev pub check : {X : Type 0} → Bool → Refusal → Result X Refusal → Result X Refusal
@@ -52,6 +49,7 @@ waited time (Some w) = Some (record { place = w .place; second = cond (ltb (w .s
 abbrev pub clocked : State → ℕ → State
 clocked s time = record { size = s .size; «open_limit» = s .«open_limit»; clock = time; vans = map (waited time) (s .vans) }
 
+-- clock: not beyond the week, and not back
 abbrev pub clock-call : State → ℕ → Result State Refusal
 clock-call s time =
     check (leb time week) BeyondWeek
@@ -62,6 +60,7 @@ clock-call s time =
 abbrev pub fresh : ℕ → ℕ → Van
 fresh place second = record { place = place; second = second; driven = 0; bookings = slots [] }
 
+-- join: a van that is off duty comes on duty at a place
 abbrev pub join-call : State → (places van place time : ℕ) → Result State Refusal
 join-call s places v place time =
     check (is-van s v) NoSuchVan
@@ -76,6 +75,7 @@ abbrev pub of-van : {X : Type 0} → Option Van → (Van → Result X Refusal) �
 of-van None ask = Err OffDuty
 of-van (Some w) ask = ask w
 
+-- leave: a van with nothing open goes off duty
 abbrev pub leave-call : State → ℕ → Result State Refusal
 leave-call s v =
     check (is-van s v) NoSuchVan
@@ -92,6 +92,7 @@ of-leg (Some leg) place ask = ask leg
 abbrev pub bound-for : Van → (place second leg : ℕ) → Van
 bound-for w place second leg = record { place = place; second = second; driven = w .driven + leg; bookings = w .bookings }
 
+-- bound: a van drives to a place, no faster than the roads
 abbrev pub bound-call : State → ℕ → (ℕ → ℕ → ℕ) → (van place time : ℕ) → Result State Refusal
 bound-call s places trip v place time =
     check (is-van s v) NoSuchVan
@@ -129,9 +130,11 @@ abbrev pub cancelled-from : State → ℕ → ℕ → Booking → Result State R
 cancelled-from s n i (Waiting pickup j) = of-van (getD (s .vans) i None) (λ w. Ok (cancelled-on s n i w))
 cancelled-from s n i (Aboard since j) = Err refusal.Aboard
 
+-- what is asked of the van that holds a booking
 abbrev pub of-holder : {X : Type 0} → Option (ℕ × Booking) → (ℕ → Booking → Result X Refusal) → Result X Refusal
 of-holder None ask = Err NotOpen
 of-holder (Some h) ask = ask (h .0) (h .1)
 
+-- cancel: the booking is looked for on every van
 abbrev pub cancel-call : State → ℕ → Result State Refusal
 cancel-call s n = of-holder (holder-of n 0 (s .vans)) (cancelled-from s n)

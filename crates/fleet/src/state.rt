@@ -13,12 +13,7 @@ use crate::slots::find_booking;
 use crate::slots::remove_booking;
 use orders::Booking;
 use roads::Roads;
-
-/// The seconds of a week.
-pub const WEEK: u32 = 604_800;
-
-/// The most vans that a fleet may have.
-pub const MOST_VANS: usize = 32;
+use stowage::WEEK;
 
 /// A van on duty: the place where it can next turn, the second at which it is there, the road seconds that it has
 /// driven, and its open bookings, ascending by number, the unused places behind them.
