@@ -17,12 +17,12 @@ followed-front ns n (Some more) = ap Some (sym (append_assoc ns (n ∷ []) more)
 turn : (all : Option (List ℕ)) (ns ms f : List ℕ) (n : ℕ) (fs gs : List (List ℕ)) → all ≡ followed ns (all_numbers gs) → gs ≡ f ∷ fs → Some n ≡ number32 f → ms ≡ ns ++ (n ∷ []) → all ≡ followed ms (all_numbers fs)
 turn all ns ms f n fs gs inv first reads pushed =
     inv ∙ ap (λ hs. followed ns (all_numbers hs)) first ∙ ap (λ o. followed ns (in_front o (all_numbers fs))) (sym reads)
-    ∙ followed_front ns n (all_numbers fs) ∙ ap (λ l. followed l (all_numbers fs)) (sym pushed)
+    ∙ followed-front ns n (all_numbers fs) ∙ ap (λ l. followed l (all_numbers fs)) (sym pushed)
 
 pub loop-unread-preserved : goal.loop-unread-preserved
 loop-unread-preserved c =
-    let first = ap (λ o. fields_left (option_map bytes_left o)) c.in-Some.is ∙ c.split-field.ensures.fields in
+    let first = ap (λ o. fields_left (option_map bytes_left o)) c.in-Some.is ∙ c.split_field.ensures.fields in
     turn (numbers_of (option_map bytes_left c.args.rest)) (vec_items c.loop-unread.numbers) (vec_items c.push.new.self)
-    c.split-field.result.0.bytes.now c.in-Some-read-number.number
-    (fields_left (option_map bytes_left c.split-field.result.1)) (fields_left (option_map bytes_left c.loop-unread.unread))
-    c.loop-unread.invariant first c.in-Some-read-number.ensures c.in-ok-push.ensures.items
+    c.split_field.result.0.bytes.now c.in-Some-read_number.number
+    (fields_left (option_map bytes_left c.split_field.result.1)) (fields_left (option_map bytes_left c.loop-unread.unread))
+    c.loop-unread.invariant first c.in-Some-read_number.ensures c.in_ok-push.ensures.items

@@ -8,33 +8,33 @@ use Rattle.text.proofs.split_field.Goals as goal
 pub returns-then-length-bytes : goal.returns-then-length-bytes
 returns-then-length-bytes c =
     let are = c.bytes-bytes.ensures in
-    let ends = c.field-length-length.ensures.value in
+    let ends = c.field_length-length.ensures.value in
     let field = cut_field _ _ _ are ends in
     let none = cut_at_end _ _ _ are ends c.if-length-bytes.true in
     record {
       field = field;
       place = refl;
       rest = sym none;
-      rest-place = tt;
+      rest_place = tt;
       fields = first_and_rest (bytes_left c.args.rest) ∙ (λ i. sym field i ∷ fields_left (none i));
     }
 
 -- the field ends before the line does, whose length fits
-pub overflow-add-next : goal.overflow-add-next
-overflow-add-next c =
-    omega (arith, length-drop c.args.rest.place c.args.rest.line.now, ap length c.bytes-bytes.ensures, c.field-length-length.ensures.bound)
+pub overflow_add-next : goal.overflow_add-next
+overflow_add-next c =
+    omega (arith, length-drop c.args.rest.place c.args.rest.line.now, ap length c.bytes-bytes.ensures, c.field_length-length.ensures.bound)
 
-pub overflow-add-next-2 : goal.overflow-add-next-2
-overflow-add-next-2 c =
-    omega (arith, length-drop c.args.rest.place c.args.rest.line.now, ap length c.bytes-bytes.ensures, c.field-length-length.ensures.bound)
+pub overflow_add-next-2 : goal.overflow_add-next-2
+overflow_add-next-2 c =
+    omega (arith, length-drop c.args.rest.place c.args.rest.line.now, ap length c.bytes-bytes.ensures, c.field_length-length.ensures.bound)
 
 pub returns : goal.returns
 returns c =
     let line = c.args.rest.line.now in
     let place = c.args.rest.place in
-    let n = c.field-length-length.result in
+    let n = c.field_length-length.result in
     let are = c.bytes-bytes.ensures in
-    let ends = c.field-length-length.ensures.value in
+    let ends = c.field_length-length.ensures.value in
     let field = cut_field _ _ _ are ends in
     let next : rest_of (drop place line) ≡ Some (drop (place + n + 1) line) =
     cut_at_comma _ _ _ are ends c.if-length-bytes.false ∙ ap Some (drop-drop (n + 1) place line ∙ ap (λ p. drop p line) (omega arith)) in
@@ -42,6 +42,6 @@ returns c =
       field = field;
       place = refl;
       rest = sym next;
-      rest-place = (refl, omega (arith, ap length field, ends, ap (λ l. length (field_of l)) are));
+      rest_place = (refl, omega (arith, ap length field, ends, ap (λ l. length (field_of l)) are));
       fields = first_and_rest (bytes_left c.args.rest) ∙ (λ i. sym field i ∷ fields_left (next i));
     }

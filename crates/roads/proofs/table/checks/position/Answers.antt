@@ -7,5 +7,5 @@ pub returns : goal.returns
 returns c = record {
   value = refl;
   bound =
-      mul-add-lt c.args.from c.args.places c.args.to c.args.places c.requires.from-within c.requires.to-within;
+      mul-add-lt c.args.from c.args.places c.args.to c.args.places c.requires.from_within c.requires.to_within;
 }
