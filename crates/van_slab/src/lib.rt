@@ -2,9 +2,9 @@
 ghost use Rattle.std.specs.Prelude.{◌≡◌, Decides};
 ghost use Rattle.orders.specs.Rules.{rules};
 ghost use Rattle.van_slab.specs.Laws.{ExactReading, BoundedReading};
-ghost use Rattle.std.specs.Cmp.Rules.{comparing};
-ghost use Rattle.std.proofs.Common.{rules};
-ghost use Rattle.std.specs.Cmp as Keys;
+ghost use Rattle.std.specs.Cmp.{partial_equiv_from_equiv};
+ghost use Rattle.van_slab.specs.Equality.{same_itinerary};
+ghost use Rattle.std.proofs.lemmas.Cmp.{nat_eq_equiv, on_equiv, and_equiv, lists_equiv};
 
 use roads::Roads;
 use stowage::Stowage;
@@ -25,7 +25,7 @@ pub struct Visit {
 }
 
 /// An order as a van drives it: its cost, how many stops it has, and these in turn; visits that are not used are all zeros.
-#[derive(Clone, Copy, Eq, Debug)]
+#[derive(Clone, Copy, Debug)]
 pub struct Itinerary {
     pub cost: u32,
     pub stops: u32,
@@ -34,16 +34,23 @@ pub struct Itinerary {
 
 /// Itineraries are equal where all their parts are.
 impl PartialEq for Itinerary {
-    ghost equals = { λ x y r. Decides r (x ≡ y) };
+    ghost eq = { same_itinerary };
 
-    ghost laws = { Keys.partial_equiv_from_equiv (Prim.search (comparing, rules)) };
+    ghost laws = { partial_equiv_from_equiv (and_equiv (on_equiv (λ r. r.cost) nat_eq_equiv) (and_equiv (on_equiv (λ r. r.stops) nat_eq_equiv) (on_equiv (λ r. r.visits) (lists_equiv (and_equiv (on_equiv (λ v. v.booking) nat_eq_equiv) (and_equiv (on_equiv (λ v. v.kind) nat_eq_equiv) (on_equiv (λ v. v.second) nat_eq_equiv))))))) };
 
-    fn eq(&self, other: &Itinerary) -> bool {
+    fn eq(&self, other: &Itinerary) -> bool
+        ensures test { result ≡ same_itinerary self.now other.now }
+        ensures decides { Decides result (self.now ≡ other.now) }
+    {
         if self.cost != other.cost || self.stops != other.stops {
             return false;
         }
         self.visits == other.visits
     }
+}
+
+impl Eq for Itinerary {
+    ghost laws = { and_equiv (on_equiv (λ r. r.cost) nat_eq_equiv) (and_equiv (on_equiv (λ r. r.stops) nat_eq_equiv) (on_equiv (λ r. r.visits) (lists_equiv (and_equiv (on_equiv (λ v. v.booking) nat_eq_equiv) (and_equiv (on_equiv (λ v. v.kind) nat_eq_equiv) (on_equiv (λ v. v.second) nat_eq_equiv)))))) };
 }
 
 /// A slab that holds the tree of a van with one to four open bookings lists just the van's valid orders, and each as it is

@@ -7,7 +7,7 @@ use Rattle.van_slab.specs.Trails.{trails}
 use Rattle.van_slab.proofs.Best.{running, running_cheapest}
 use Rattle.van_slab.proofs.Turns.{best_over, best_takes, best_keeps, best_passes}
 use Rattle.van_slab.proofs.reading.cheapest_order.Goals as goal
-use Rattle.van_slab.proofs.reading.cheapest_order.Goals.{then-ends-order+then-is-cheaper, else-ends-order, else-ends-order-via-then-ends-order+else-is-cheaper, else-ends-order-via-else-ends-order}
+use Rattle.van_slab.proofs.reading.cheapest_order.Goals.{then-ends_order+then-is_cheaper, else-ends_order, else-ends_order-via-then-ends_order+else-is_cheaper, else-ends_order-via-else-ends_order}
 
 pub loop-node-preserved : goal.loop-node-preserved
 loop-node-preserved c =
@@ -18,17 +18,17 @@ loop-node-preserved c =
     let h = c.loop-node-test.true in
     let e = c.if-not-enter.ensures.answer in
     let m = c.enter.ensures.moved c.if-not-enter.false in
-    let goes_on : (best : Option Itinerary) → c.if-ends-order.best ≡ best →
+    let goes_on : (best : Option Itinerary) → c.if-ends_order.best ≡ best →
     running c.loop-node.best (trails t (drop i xs)) ≡ running best (trails u (drop (i + 1) xs)) →
-    running c.if-ends-order.best (trails u (drop (i + 1) xs)) ≡ running None (trails [] xs) =
+    running c.if-ends_order.best (trails u (drop (i + 1) xs)) ≡ running None (trails [] xs) =
     λ best is turn. ap (λ b. running b (trails u (drop (i + 1) xs))) is ∙ sym turn ∙ c.loop-node.invariant in
-    elim c.if-ends-order.branch [
-      | then-ends-order+then-is-cheaper w ↦
-          goes_on _ (w.best-is ∙ ap Some w.itinerary.ensures) (best_takes xs i h t u c.loop-node.best e m (sym w.if-ends-order.true ∙ c.ends-order.ensures) (sym w.is-cheaper.ensures ∙ w.if-is-cheaper.true))
-      | else-ends-order w ↦ elim w.else-ends-order.branch [
-        | else-ends-order-via-then-ends-order+else-is-cheaper w' ↦
-            goes_on _ w.best-is (best_keeps xs i h t u c.loop-node.best e m (sym w'.if-ends-order.true ∙ c.ends-order.ensures) (sym w'.is-cheaper.ensures ∙ w'.if-is-cheaper.false))
-        | else-ends-order-via-else-ends-order w' ↦ goes_on _ w.best-is (best_passes xs i h t u c.loop-node.best e m (sym w'.if-ends-order.false ∙ c.ends-order.ensures))
+    elim c.if-ends_order.branch [
+      | then-ends_order+then-is_cheaper w ↦
+          goes_on _ (w.best-is ∙ ap Some w.itinerary.ensures) (best_takes xs i h t u c.loop-node.best e m (sym w.if-ends_order.true ∙ c.ends_order.ensures) (sym w.is_cheaper.ensures ∙ w.if-is_cheaper.true))
+      | else-ends_order w ↦ elim w.else-ends_order.branch [
+        | else-ends_order-via-then-ends_order+else-is_cheaper w' ↦
+            goes_on _ w.best-is (best_keeps xs i h t u c.loop-node.best e m (sym w'.if-ends_order.true ∙ c.ends_order.ensures) (sym w'.is_cheaper.ensures ∙ w'.if-is_cheaper.false))
+        | else-ends_order-via-else-ends_order w' ↦ goes_on _ w.best-is (best_passes xs i h t u c.loop-node.best e m (sym w'.if-ends_order.false ∙ c.ends_order.ensures))
       ]
     ]
 

@@ -7,7 +7,7 @@ use Rattle.orders.specs.declared.Node.{Node}
 use Rattle.van_slab.specs.Trails.{trails, told}
 use Rattle.van_slab.proofs.Turns.{order_over, order_here, order_later, order_passes}
 use Rattle.van_slab.proofs.reading.order_at.Goals as goal
-use Rattle.van_slab.proofs.reading.order_at.Goals.{then-ends-order+else-left-eq0, else-ends-order}
+use Rattle.van_slab.proofs.reading.order_at.Goals.{then-ends_order+else-left-eq0, else-ends_order}
 
 pub loop-node-preserved : goal.loop-node-preserved
 loop-node-preserved c =
@@ -18,13 +18,13 @@ loop-node-preserved c =
     let h = c.loop-node-test.true in
     let e = c.if-not-enter.ensures.answer in
     let m = c.enter.ensures.moved c.if-not-enter.false in
-    let goes_on : (left : ℕ) → c.if-ends-order.left ≡ left →
+    let goes_on : (left : ℕ) → c.if-ends_order.left ≡ left →
     slice_get (trails t (drop i xs)) c.loop-node.left ≡ slice_get (trails u (drop (i + 1) xs)) left →
-    slice_get (trails u (drop (i + 1) xs)) c.if-ends-order.left ≡ slice_get (trails [] xs) c.args.index =
+    slice_get (trails u (drop (i + 1) xs)) c.if-ends_order.left ≡ slice_get (trails [] xs) c.args.index =
     λ left is turn. ap (slice_get (trails u (drop (i + 1) xs))) is ∙ sym turn ∙ c.loop-node.invariant in
-    elim c.if-ends-order.branch [
-      | then-ends-order+else-left-eq0 w ↦ goes_on _ w.left-is (order_later xs i h t u c.loop-node.left e m (sym w.if-ends-order.true ∙ c.ends-order.ensures) w.if-left-eq0.false)
-      | else-ends-order w ↦ goes_on _ w.left-is (order_passes xs i h t u c.loop-node.left e m (sym w.if-ends-order.false ∙ c.ends-order.ensures))
+    elim c.if-ends_order.branch [
+      | then-ends_order+else-left-eq0 w ↦ goes_on _ w.left-is (order_later xs i h t u c.loop-node.left e m (sym w.if-ends_order.true ∙ c.ends_order.ensures) w.if-left-eq0.false)
+      | else-ends_order w ↦ goes_on _ w.left-is (order_passes xs i h t u c.loop-node.left e m (sym w.if-ends_order.false ∙ c.ends_order.ensures))
     ]
 
 pub returns-after-loop-node : goal.returns-after-loop-node
@@ -46,5 +46,5 @@ returns-then-left-eq0 c =
     ap Some c.itinerary.ensures
     ∙ ap (option_map told)
     (sym (order_here c.args.slab.now c.loop-node.node-index c.loop-node-test.true t u c.loop-node.left
-    c.if-not-enter.ensures.answer (c.enter.ensures.moved c.if-not-enter.false) c.if-ends-order.ensures c.if-left-eq0.true)
+    c.if-not-enter.ensures.answer (c.enter.ensures.moved c.if-not-enter.false) c.if-ends_order.ensures c.if-left-eq0.true)
     ∙ c.loop-node.invariant)

@@ -5,7 +5,7 @@ use Rattle.std.proofs.lemmas.Bool.{false≢true}
 use Rattle.van_slab.specs.Trails.{follows}
 use Rattle.van_slab.proofs.Entered.{can_follow, no_span, no_depth, too_far, too_deep, written}
 use Rattle.van_slab.proofs.trail.Trail.enter.Goals as goal
-use Rattle.van_slab.proofs.trail.Trail.enter.Goals.{then-node-eq0-via-then-node-eq0, then-node-eq0-via-else-node-eq0+then-depth-eq0, then-node-eq0-via-else-node-eq0+else-depth-eq0+then-depth-self, then-node-eq0-via-else-node-eq0+else-depth-eq0+else-depth-self+then-depth-gt-MOST-STOPS}
+use Rattle.van_slab.proofs.trail.Trail.enter.Goals.{then-node-eq0-via-then-node-eq0, then-node-eq0-via-else-node-eq0+then-depth-eq0, then-node-eq0-via-else-node-eq0+else-depth-eq0+then-depth-self, then-node-eq0-via-else-node-eq0+else-depth-eq0+else-depth-self+then-depth-gt-MOST_STOPS}
 
 pub returns-then-node-eq0 : goal.returns-then-node-eq0
 returns-then-node-eq0 c =
@@ -17,7 +17,7 @@ returns-then-node-eq0 c =
       | then-node-eq0-via-then-node-eq0 w ↦ no_span t x w.if-node-eq0.true
       | then-node-eq0-via-else-node-eq0+then-depth-eq0 w ↦ no_depth t x w.if-depth-eq0.true
       | then-node-eq0-via-else-node-eq0+else-depth-eq0+then-depth-self w ↦ too_far t x (omega (arith, w.if-depth-self.true))
-      | then-node-eq0-via-else-node-eq0+else-depth-eq0+else-depth-self+then-depth-gt-MOST-STOPS w ↦ too_deep t x w.if-depth-gt-MOST-STOPS.true
+      | then-node-eq0-via-else-node-eq0+else-depth-eq0+else-depth-self+then-depth-gt-MOST_STOPS w ↦ too_deep t x w.if-depth-gt-MOST_STOPS.true
     ] in
     record { answer = sym refused; moved = λ z. absurd (false≢true z) }
 
