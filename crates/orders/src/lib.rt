@@ -1,5 +1,7 @@
 //! The valid orders of a van's open stops and the kinetic tree that holds them: what they are, in specs/, and the laws
 //! that everything above rests on, each named by the contract of a function.
+#![tactic(auto)]
+
 ghost use Rattle.std.specs.Prelude.{◌≡◌};
 ghost use Rattle.orders.specs.Bookings.{number_of};
 ghost use Rattle.orders.specs.Rules.{rules};

@@ -1,5 +1,5 @@
 -- Shows that the trips of a grid keep the laws of roads.
-use Rattle.std.specs.Prelude.{◌≡◌, ℕ, ◌+◌, ◌-◌, ◌*◌, ◌/◌, ◌%◌, ◌<◌, ◌≤◌}
+use Rattle.std.specs.Prelude.{ℕ, ◌+◌, ◌-◌, ◌*◌, ◌/◌, ◌%◌, ◌<◌, ◌≤◌}
 use Rattle.std.proofs.Common.{mul-add, mul_comm, mul-zero, zero-mul, le-mul_of_pos_right, lt_of_mul-lt-mul_right, arith}
 use Rattle.std.proofs.Math.Nat.{mul-sub, sub_self, lt_of_mul-lt-mul_left}
 use Rattle.std.proofs.lemmas.Nat.{mul-le, div_below, mod_below}

@@ -1,4 +1,6 @@
 //! The road seconds from place to place.
+#![tactic(auto)]
+
 ghost use Rattle.std.specs.Prelude.{◌≡◌, ℕ};
 ghost use Rattle.roads.specs.Roads.{Lawful, between};
 ghost use Rattle.roads.specs.Faults.{fault_number, fault_detail};

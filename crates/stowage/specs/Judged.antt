@@ -1,5 +1,5 @@
 -- What was promised passed every test, and so keeps within the week.
-use Rattle.std.specs.Prelude.{◌≡◌, ℕ, ◌+◌, ◌*◌, ◌/◌, ◌≤◌, min, Bool, true, false, List, [], ◌∷◌, Ok, Err, Result, refl}
+use Rattle.std.specs.Prelude.{◌≡◌, ℕ, ◌+◌, ◌*◌, ◌≤◌, min, Bool, true, false, List, [], ◌∷◌, Ok, Err, Result, refl}
 use Rattle.std.proofs.Common.{subst, mul-le-mul_left, arith}
 use Rattle.std.proofs.lemmas.Bool.{leb-true, and_parts}
 use Rattle.stowage.specs.declared.BadFigure.{BadFigure}

@@ -1,5 +1,5 @@
 -- What every stowage rule keeps.
-use Rattle.std.specs.Prelude.{◌≡◌, ℕ, ◌≤◌, List, [], ◌∷◌, Some, Ok, Option, Result}
+use Rattle.std.specs.Prelude.{◌≡◌, ℕ, ◌≤◌, List, Some, Ok, Option, Result}
 use Rattle.stowage.specs.declared.BadFigure.{BadFigure}
 use Rattle.stowage.specs.declared.Load.{Load}
 use Rattle.stowage.specs.declared.Promise.{Promise}

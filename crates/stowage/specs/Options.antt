@@ -1,6 +1,6 @@
 -- An answer is there or not, and what follows from either.
-use Rattle.std.specs.Prelude.{◌≡◌, ℕ, Bool, true, false, T, ◌⊎◌, is_some, Some, None, Option, ◌≢◌, refl}
-use Rattle.std.proofs.Common.{sym, ◌∙◌, inl, inr, arith}
+use Rattle.std.specs.Prelude.{◌≡◌, ℕ, Bool, true, false, T, Some, None, Option, ◌≢◌, refl}
+use Rattle.std.proofs.Common.{sym, arith}
 use Rattle.stowage.specs.Figures.{when}
 
 pub none_some : {X : Type 0} {x : X} → None ≢ Some x

@@ -1,5 +1,5 @@
 -- Parcels: figures, promise and hold.
-use Rattle.std.specs.Prelude.{ℕ, ◌+◌, Bool, true, false, ◌&&◌, T, List, [], ◌∷◌, Option, Result, nat_le}
+use Rattle.std.specs.Prelude.{ℕ, ◌+◌, Bool, ◌&&◌, List, [], ◌∷◌, Option, Result, nat_le}
 use Rattle.stowage.specs.Figures.{week, figure, judged, when}
 use Rattle.stowage.specs.Limits.{cargo_room}
 use Rattle.stowage.specs.declared.BadFigure.{BadFigure}

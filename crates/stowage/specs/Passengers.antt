@@ -1,5 +1,5 @@
 -- Passengers: figures, promise and hold.
-use Rattle.std.specs.Prelude.{ℕ, ◌+◌, ◌*◌, ◌/◌, min, Bool, true, false, ◌&&◌, ◌||◌, T, List, [], ◌∷◌, Option, Result, nat_le, nat_lt}
+use Rattle.std.specs.Prelude.{ℕ, ◌+◌, ◌*◌, ◌/◌, min, Bool, ◌&&◌, List, [], ◌∷◌, Option, Result, nat_le, nat_lt}
 use Rattle.stowage.specs.Figures.{week, figure, judged, when}
 use Rattle.stowage.specs.Limits.{seating_room}
 use Rattle.stowage.specs.declared.BadFigure.{BadFigure}

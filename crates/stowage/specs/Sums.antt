@@ -1,8 +1,7 @@
 -- A hold of two sums, limited by a test that less never fails, keeps the law of exchange.
-use Rattle.std.specs.Prelude.{◌≡◌, ℕ, ◌+◌, ◌*◌, ◌≤◌, Bool, true, false, ◌&&◌, T, Some, None, Option, nat_le, refl}
+use Rattle.std.specs.Prelude.{◌≡◌, ℕ, ◌+◌, ◌*◌, ◌≤◌, Bool, true, false, T, Option, nat_le, refl}
 use Rattle.std.proofs.Common.{sym, ap, ◌∙◌, arith}
 use Rattle.std.proofs.lemmas.Bool.{le-leb, leb-true, and_parts, and_from}
-use Rattle.stowage.specs.declared.Load.{Load}
 use Rattle.stowage.specs.Figures.{when}
 use Rattle.stowage.specs.Laws.{Exchange}
 use Rattle.stowage.specs.Limits.{seating_room, cargo_room}

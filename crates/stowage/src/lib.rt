@@ -1,4 +1,6 @@
 //! Stowage rules: what fits into a van together, and what a booking may be promised.
+#![tactic(auto)]
+
 ghost use Rattle.std.specs.Prelude.{◌≡◌, ℕ, List, Option as Maybe, Result as Answer};
 ghost use Rattle.stowage.specs.declared.BadFigure.{BadFigure as Bad};
 ghost use Rattle.stowage.specs.declared.Load.{Load as Weight};

@@ -1,4 +1,6 @@
 //! Lines of fields parted by commas, and the decimal numbers in them.
+#![tactic(auto)]
+
 ghost use Rattle.std.specs.Prelude.{◌≡◌, ◌+◌, ◌^◌, ◌<◌, ◌≤◌, ◌∷◌, length, IfSome, IfOk, vec_items};
 ghost use Rattle.std.specs.Option.{option_map};
 ghost use Rattle.text.specs.Fields.{bytes_left, field_of, rest_of, fields, fields_left, PartsOneWay};

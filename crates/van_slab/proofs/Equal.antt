@@ -1,5 +1,5 @@
 -- Shows that visits, and lists of them, are equal just where their tests say so.
-use Rattle.std.proofs.Common.{◌≡◌, ℕ, ◌==◌, Bool, List, Decides, refl, ap}
+use Rattle.std.proofs.Common.{◌≡◌, ◌==◌, Bool, List, Decides, ap}
 use Rattle.std.proofs.lemmas.Bool.Decides.{Decides-eqb}
 use Rattle.std.proofs.lemmas.Bool.{and_parts, and_from}
 use Rattle.std.proofs.lemmas.Slice.Eq.{slice_eq-Decides}

@@ -1,5 +1,5 @@
 -- Defines the test by which two itineraries are compared.
-use Rattle.std.specs.Prelude.{ℕ, Bool, ◌==◌}
+use Rattle.std.specs.Prelude.{Bool, ◌==◌}
 use Rattle.std.specs.Ordering.{on, eq_of_both}
 use lib.Pointwise.{pointwise}
 use Rattle.van_slab.specs.declared.Visit.{Visit}

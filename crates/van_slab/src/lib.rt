@@ -1,4 +1,6 @@
 //! The slabs that hold the vans' trees: how large they are, and which orders stand in one.
+#![tactic(auto)]
+
 ghost use Rattle.std.specs.Prelude.{◌≡◌, Decides};
 ghost use Rattle.orders.specs.Rules.{rules};
 ghost use Rattle.van_slab.specs.Laws.{ExactReading, BoundedReading};

@@ -1,5 +1,5 @@
 -- Each turn stows the first of the loads that are left; order and part follow from exchange.
-use Rattle.std.proofs.Common.{◌≡◌, sym, ◌∙◌}
+use Rattle.std.proofs.Common.{sym, ◌∙◌}
 use Rattle.stowage.proofs.Together.{turn_some, turn_none, turn_last, stows_all}
 use Rattle.stowage.proofs.stow_all.Goals as goal
 

@@ -1,7 +1,7 @@
 -- `split_field` cuts what is left of the line where its first field ends.
-use Rattle.std.proofs.Common.{◌≡◌, ◌+◌, ◌<◌, ◌∷◌, length, drop, Some, sym, refl, ap, ◌∙◌, arith, length-drop}
+use Rattle.std.proofs.Common.{◌≡◌, ◌+◌, ◌∷◌, length, drop, Some, sym, refl, ap, ◌∙◌, arith, length-drop}
 use Rattle.std.proofs.lemmas.List.{drop-drop}
-use Rattle.text.specs.Fields.{bytes_left, field_of, rest_of, fields, fields_left}
+use Rattle.text.specs.Fields.{bytes_left, field_of, rest_of, fields_left}
 use Rattle.text.proofs.Splits.{cut_field, cut_at_end, cut_at_comma, first_and_rest}
 use Rattle.text.proofs.split_field.Goals as goal
 

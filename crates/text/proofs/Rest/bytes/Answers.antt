@@ -1,5 +1,4 @@
 -- What is left from within the line, or none of it, is what is left from the place on.
-use Rattle.std.proofs.Common.{◌∙◌}
 use Rattle.text.proofs.Splits.{left_from_within}
 use Rattle.text.proofs.Rest.bytes.Goals as goal
 
