@@ -1,6 +1,6 @@
 -- Shows that every accepted call leaves the vans housed: at places that the roads have, with loads that fit together.
 use Rattle.std.proofs.Common.{◌≡◌, ℕ, zero, suc, ◌-◌, ◌<◌, true, cond, eqb, ltb, ◌⊎◌, List, [], ◌∷◌, get_or, set, is_some, Some, None, Ok, Option, sym, refl, ap, ◌∙◌, subst, inl, inr, ⊎_elim}
-use Rattle.std.specs.List.{AllByRecursion as All}
+use Rattle.std.specs.List.{AllByRecursion}
 use Rattle.std.proofs.lemmas.Bool.{cond_both}
 use Rattle.stowage.specs.declared.Load.{Load}
 use Rattle.stowage.specs.declared.Promise.{Promise}
@@ -49,11 +49,11 @@ module _ (g : Rules) where
   fits_without lawful n bs h = any_part g.stow lawful.exchange (fewer_loads n bs) (Some g.empty) h
 
   -- a van whose bookings stand in their places
-  in_places : (place second driven : ℕ) (bs : List Booking) → place < g.places → All (StopsBelow g.places) bs → fit_together g bs ≡ true →
+  in_places : (place second driven : ℕ) (bs : List Booking) → place < g.places → AllByRecursion (StopsBelow g.places) bs → fit_together g bs ≡ true →
       HousedVan g (record { place = place; second = second; driven = driven; bookings = slots bs })
   in_places place second driven bs p a h = record {
     place = p;
-    stops = subst (All (StopsBelow g.places)) (sym (compact_slots bs)) a;
+    stops = subst (AllByRecursion (StopsBelow g.places)) (sym (compact_slots bs)) a;
     fits = ap (fit_together g) (compact_slots bs) ∙ h;
   }
 

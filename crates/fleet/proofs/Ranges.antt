@@ -1,6 +1,6 @@
 -- Shows what the test of a booking's ranges tells, and that a booking that was asked for passes it.
 use Rattle.std.proofs.Common.{◌≡◌, ℕ, ◌<◌, ◌≤◌, true, ◌&&◌, ltb, leb, List, [], ◌∷◌, Some, None, Ok, Err, Option, Result, sym, refl, ap, subst, arith}
-use Rattle.std.specs.List.{AllByRecursion as All}
+use Rattle.std.specs.List.{AllByRecursion}
 use Rattle.std.proofs.lemmas.Bool.{and_parts, and_from, leb-true, le-leb, ltb-true, lt-ltb}
 use Rattle.roads.specs.Roads.{between}
 use Rattle.stowage.specs.Laws.{InWeek, Keeps}
@@ -67,11 +67,11 @@ booking_test driven (Waiting pickup j) h = and_from _ _ (stop_test pickup h.0) (
 booking_test driven (Aboard since j) h = and_from _ _ (le-leb _ _ h.0) (journey_test j h.1)
 
 -- of a van's bookings
-pub bookings_of : (driven : ℕ) (bs : List Booking) → is_sound_bookings driven bs ≡ true → All (SoundBooking driven) bs
+pub bookings_of : (driven : ℕ) (bs : List Booking) → is_sound_bookings driven bs ≡ true → AllByRecursion (SoundBooking driven) bs
 bookings_of driven [] h = tt
 bookings_of driven (b ∷ bs) h = let p = and_parts (is_sound_booking driven b) _ h in (booking_of driven b p.0, bookings_of driven bs p.1)
 
-pub bookings_test : (driven : ℕ) (bs : List Booking) → All (SoundBooking driven) bs → is_sound_bookings driven bs ≡ true
+pub bookings_test : (driven : ℕ) (bs : List Booking) → AllByRecursion (SoundBooking driven) bs → is_sound_bookings driven bs ≡ true
 bookings_test driven [] a = refl
 bookings_test driven (b ∷ bs) a = and_from _ _ (booking_test driven b a.0) (bookings_test driven bs a.1)
 

@@ -1,6 +1,6 @@
 -- Shows what the test of a sound state tells, and that every accepted call leaves a sound state.
 use Rattle.std.proofs.Common.{◌≡◌, ℕ, zero, suc, ◌+◌, ◌-◌, ◌<◌, ◌≤◌, Bool, true, false, cond, eqb, ltb, leb, ◌⊎◌, List, [], ◌∷◌, ◌++◌, map, length, get_or, drop, set, replicate, Some, None, Ok, Option, sym, refl, ap, ◌∙◌, subst, inl, inr, ⊎_elim, arith}
-use Rattle.std.specs.List.{AllByRecursion as All}
+use Rattle.std.specs.List.{AllByRecursion}
 use Rattle.std.proofs.ByRecursion.{All-map, All-weaker}
 use Rattle.std.proofs.lemmas.List.{length-set, length-map, length-append, length-replicate, nil_from_length, get_or-set_same, get_or-set_other, drop-set-lt, drop-map}
 use Rattle.std.proofs.lemmas.Bool.{and_parts, and_from, leb-true, le-leb, eqb-true, eq-eqb, ltb-true, ltb-false, lt-ltb, cond_both, cases_eq, cases_lt}
@@ -39,7 +39,7 @@ pub record SoundVan (clock limit : ℕ) (w : Van) : Type 0 where
   pub time : clock ≤ w.second
   pub week : w.second ≤ 604800
   pub driven : w.driven ≤ w.second
-  pub bookings : All (SoundBooking w.driven) (States.open_bookings w)
+  pub bookings : AllByRecursion (SoundBooking w.driven) (States.open_bookings w)
   pub its : SoundSlots limit w.bookings
 
 -- what the test of a state tells
@@ -137,8 +137,8 @@ slots_test limit held h =
     (and_from _ _ (ascending_test (compact held) h.ascending) (le-leb _ _ h.few)))
 
 -- what holds of each of the bookings holds of each in their places
-in_slots : (P : Booking → Type 0) (bs : List Booking) → All P bs → All P (compact (slots bs))
-in_slots P bs a = subst (All P) (sym (compact_slots bs)) a
+in_slots : (P : Booking → Type 0) (bs : List Booking) → AllByRecursion P bs → AllByRecursion P (compact (slots bs))
+in_slots P bs a = subst (AllByRecursion P) (sym (compact_slots bs)) a
 
 -- what the test of a van tells, and the test from it
 pub van_of : (clock limit : ℕ) (w : Van) → is_sound_van clock limit w ≡ true → SoundVan clock limit w
@@ -237,13 +237,13 @@ abbrev pub OnlyOn : State → ℕ → ℕ → Type 0
 OnlyOn s i n = (j : ℕ) → In n (numbers_on (get_or s.vans j None)) → j ≡ i
 
 -- what is open on a van is open on no other
-pub its_own : (s : State) → Sound s → (i : ℕ) (w : Van) → get_or s.vans i None ≡ Some w → All (λ b. OnlyOn s i (number_of b)) (States.open_bookings w)
+pub its_own : (s : State) → Sound s → (i : ℕ) (w : Van) → get_or s.vans i None ≡ Some w → AllByRecursion (λ b. OnlyOn s i (number_of b)) (States.open_bookings w)
 its_own s h i w e =
     all_from_in _ (States.open_bookings w)
     (λ b k j there. h.once (number_of b) j i there (subst (λ o. In (number_of b) (numbers_on o)) (sym e) (in_map number_of b (States.open_bookings w) k)))
 
 -- the state is sound with another van at an index, if its numbers are open on no other van
-pub set_sound : (s : State) → Sound s → (i : ℕ) (o : Option Van) → i < s.size → is_sound_place s.clock s.open_limit o ≡ true → All (OnlyOn s i) (numbers_on o) → Sound (at_index s i o)
+pub set_sound : (s : State) → Sound s → (i : ℕ) (o : Option Van) → i < s.size → is_sound_place s.clock s.open_limit o ≡ true → AllByRecursion (OnlyOn s i) (numbers_on o) → Sound (at_index s i o)
 set_sound s h i o l t own = record {
   one = h.one;
   most = h.most;
@@ -278,7 +278,7 @@ set_sound s h i o l t own = record {
     both n j k (inr p) (inr q) = h.once n j k p q
 
 -- the state is sound with another van at an index, if the van is, and its numbers are open on no other van
-van_sound : (s : State) → Sound s → (i : ℕ) (w : Van) → i < s.size → SoundVan s.clock s.open_limit w → All (λ b. OnlyOn s i (number_of b)) (States.open_bookings w) → is_sound (at_index s i (Some w)) ≡ true
+van_sound : (s : State) → Sound s → (i : ℕ) (w : Van) → i < s.size → SoundVan s.clock s.open_limit w → AllByRecursion (λ b. OnlyOn s i (number_of b)) (States.open_bookings w) → is_sound (at_index s i (Some w)) ≡ true
 van_sound s h i w l t own =
     sound_test (at_index s i (Some w)) (set_sound s h i (Some w) l (van_test s.clock s.open_limit w t) (All-map (OnlyOn s i) number_of (States.open_bookings w) own))
 
@@ -291,7 +291,7 @@ module _ (s s' : State) (h : is_sound s ≡ true) where
   known = sound_of s h
 
   -- a changed van keeps the state sound
-  changed : (v : ℕ) (w : Van) → States.is_van s v ≡ true → SoundVan s.clock s.open_limit w → All (λ b. OnlyOn s (v - 1) (number_of b)) (States.open_bookings w) → s' ≡ States.with_van s v (Some w) → is_sound s' ≡ true
+  changed : (v : ℕ) (w : Van) → States.is_van s v ≡ true → SoundVan s.clock s.open_limit w → AllByRecursion (λ b. OnlyOn s (v - 1) (number_of b)) (States.open_bookings w) → s' ≡ States.with_van s v (Some w) → is_sound s' ≡ true
   changed v w i t own e = subst (λ x. is_sound x ≡ true) (sym e) (van_sound s known (v - 1) w (index_within s v i) t own)
 
   pub join_sound : (places v place time : ℕ) → places ≤ 64 → States.join_call s places v place time ≡ Ok s' → is_sound s' ≡ true

@@ -1,7 +1,7 @@
 -- Defines when the vans of a state are housed by the rules: they and their stops are at places that the roads have, and what is
 -- aboard fits together.
 use Rattle.std.specs.Prelude.{◌≡◌, ℕ, ◌<◌, true, Some, None, slice_index_or}
-use Rattle.std.specs.List.{AllByRecursion as All}
+use Rattle.std.specs.List.{AllByRecursion}
 use Rattle.orders.specs.declared.Booking.{Booking}
 use Rattle.orders.specs.declared.Booking.TheVariants.{Waiting, Aboard}
 use Rattle.orders.specs.Rules.{Rules}
@@ -18,7 +18,7 @@ StopsBelow places (Aboard since j) = j.dropoff.place < places
 -- a van and its open stops are at places that the roads have, and the loads aboard fit together
 pub record HousedVan (g : Rules) (w : Van) : Type 0 where
   pub place : w.place < g.places
-  pub stops : All (StopsBelow g.places) (open_bookings w)
+  pub stops : AllByRecursion (StopsBelow g.places) (open_bookings w)
   pub fits : fit_together g (open_bookings w) ≡ true
 
 -- so is every van on duty

@@ -16,8 +16,8 @@ use crate::guide::{Guide, find_child};
 use crate::{Fresh, Ground, Position};
 use orders::Node;
 use roads::Roads;
-use van_slab::OpenLimit;
 use stowage::Stowage;
+use van_slab::OpenLimit;
 
 /// Where a van's own slab and the working slab behind it begin, and how many nodes each has.
 #[derive(Clone, Copy)]

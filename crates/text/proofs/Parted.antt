@@ -2,13 +2,13 @@
 use Rattle.std.proofs.Common.{◌≡◌, ℕ, ◌+◌, ◌<◌, true, false, cond, eqb, ◌≢◌, List, [], ◌∷◌, ◌++◌, length, get_or, drop, sym, refl, ap, ◌∙◌, arith}
 use Rattle.std.proofs.lemmas.List.{at_drop_more}
 use Rattle.std.proofs.lemmas.Bool.{cond-true, cond-false, eq-eqb, ne_eqb, eqb-true, eqb-false}
-use Rattle.std.specs.List.{AllByRecursion as All}
+use Rattle.std.specs.List.{AllByRecursion}
 use Rattle.text.specs.Fields.{comma, fields, grown, after_commas, comma_joined, Parted, PartsOneWay}
 use Rattle.text.proofs.Splits.{first_and_rest}
 
 -- Bytes with no comma among them.
 abbrev Free : List ℕ → Type 0
-Free = All (λ b. b ≢ comma)
+Free = AllByRecursion (λ b. b ≢ comma)
 
 fields_some : (bs : List ℕ) → fields bs ≢ []
 fields_some bs none = omega (arith, ap length (first_and_rest bs), ap length none)
@@ -30,14 +30,14 @@ fields_join (b ∷ bs) =
     ]
     refl
 
-free_grown : (b : ℕ) (fs : List (List ℕ)) → b ≢ comma → All Free fs → All Free (grown b fs)
+free_grown : (b : ℕ) (fs : List (List ℕ)) → b ≢ comma → AllByRecursion Free fs → AllByRecursion Free (grown b fs)
 free_grown b [] other free = ((other, tt), tt)
 free_grown b (f ∷ fs) other free = ((other, free.0), free.1)
 
-fields_free : (bs : List ℕ) → All Free (fields bs)
+fields_free : (bs : List ℕ) → AllByRecursion Free (fields bs)
 fields_free [] = (tt, tt)
 fields_free (b ∷ bs) =
-    elim (eqb b comma) as (λ t. eqb b comma ≡ t → All Free (cond t ([] ∷ fields bs) (grown b (fields bs))))
+    elim (eqb b comma) as (λ t. eqb b comma ≡ t → AllByRecursion Free (cond t ([] ∷ fields bs) (grown b (fields bs))))
     [ true ↦ λ is. (tt, fields_free bs) | false ↦ λ is. free_grown b (fields bs) (eqb-false b comma is) (fields_free bs) ]
     refl
 
@@ -47,7 +47,7 @@ fields_front [] rest fs free is = is
 fields_front (b ∷ f) rest fs free is =
     cond-false (eqb b comma) _ _ (ne_eqb b comma free.0) ∙ ap (grown b) (fields_front f rest fs free.1 is)
 
-fields_after : (fs : List (List ℕ)) → All Free fs → fields (after_commas fs) ≡ [] ∷ fs
+fields_after : (fs : List (List ℕ)) → AllByRecursion Free fs → fields (after_commas fs) ≡ [] ∷ fs
 fields_after [] free = refl
 fields_after (f ∷ fs) free = ap (λ l. [] ∷ l) (fields_front f (after_commas fs) fs free.0 (fields_after fs free.1))
 

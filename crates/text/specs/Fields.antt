@@ -1,6 +1,6 @@
 -- Defines how a line falls into fields at its commas. A line is the list of its bytes.
 use Rattle.std.specs.Prelude.{◌≡◌, ℕ, cond, ◌≢◌, List, [], ◌∷◌, ◌++◌, drop, Some, None, Option, ◌==◌}
-use Rattle.std.specs.List.{AllByRecursion as All}
+use Rattle.std.specs.List.{AllByRecursion}
 use Rattle.text.specs.declared.Rest.{Rest}
 
 -- The byte that parts fields.
@@ -50,7 +50,7 @@ comma_joined (f ∷ fs) = f ++ after_commas fs
 pub record Parted (line : List ℕ) (fs : List (List ℕ)) : Type 0 where
   pub some : fs ≢ []
   pub joins : comma_joined fs ≡ line
-  pub comma_free : All (All (λ b. b ≢ comma)) fs
+  pub comma_free : AllByRecursion (AllByRecursion (λ b. b ≢ comma)) fs
 
 -- A line is parted into its fields, and in no other way.
 pub record PartsOneWay (line : List ℕ) : Type 0 where

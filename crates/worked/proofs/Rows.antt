@@ -2,7 +2,7 @@
 use Rattle.std.proofs.Common.{ℕ, List, [], ◌∷◌, refl, inl, arith, lit<, lit≤}
 use Rattle.roads.specs.declared.RoadFault.TheVariants.{Detour}
 use Rattle.roads.specs.Tables.{Square}
-use Rattle.std.specs.List.{AllByRecursion as All}
+use Rattle.std.specs.List.{AllByRecursion}
 use Rattle.orders.specs.Trees.{step, children, grow, kinetic_tree}
 use Rattle.orders.specs.Walks.{departs}
 use Rattle.worked.specs.Examples.{Example, Holds, rows, table_refused, served_by}
@@ -42,7 +42,7 @@ stops_of_parcel : Computes (served_by parcels (van_one (parcel ∷ [])) (9 ∷ 9
 unfolding departs
 stops_of_parcel = (parcel, inl refl, refl, refl, (_, inl refl, refl, refl, refl))
 
-rows_compute : All Computes rows
+rows_compute : AllByRecursion Computes rows
 unfolding departs step children grow kinetic_tree
 rows_compute = (
   (_, refl, refl),
@@ -88,9 +88,9 @@ rows_compute = (
   ),
 )
 
-all_hold : (xs : List Example) → All Computes xs → All Holds xs
+all_hold : (xs : List Example) → AllByRecursion Computes xs → AllByRecursion Holds xs
 all_hold [] h = tt
 all_hold (x ∷ xs) h = (holds x h.0, all_hold xs h.1)
 
-pub rows_hold : All Holds rows
+pub rows_hold : AllByRecursion Holds rows
 rows_hold = all_hold rows rows_compute

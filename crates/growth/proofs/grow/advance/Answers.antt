@@ -14,8 +14,8 @@ returns-then-frame-eq4 g c =
     left_behind (rules_of g.R.Roads g.S.Stowage c.args.ground)
     c.args.fresh c.args.work c.args.nodes.now c.args.stack.now c.requires.standing c.requires.some no-frame c.if-frame-eq4.true
 
-pub try-next-growth-requires : goal.try-next-growth-requires
-try-next-growth-requires g c =
+pub try_next-growth-requires : goal.try_next-growth-requires
+try_next-growth-requires g c =
     let r = rules_of g.R.Roads g.S.Stowage c.args.ground in
     let first = first_stands r c.args.fresh c.args.work c.args.nodes.now c.args.stack.now c.requires.standing c.requires.some no-frame in
     record {
@@ -24,8 +24,8 @@ try-next-growth-requires g c =
       next = let h = first.next in let k = c.if-frame-eq4.false in omega arith;
     }
 
-pub overflow-add-stack-2 : goal.overflow-add-stack-2
-overflow-add-stack-2 g c =
+pub overflow_add-stack-2 : goal.overflow_add-stack-2
+overflow_add-stack-2 g c =
     let first = first_stands (rules_of g.R.Roads g.S.Stowage c.args.ground)
     c.args.fresh c.args.work c.args.nodes.now c.args.stack.now c.requires.standing c.requires.some no-frame in
     let h = first.next in
@@ -38,8 +38,8 @@ bounds-nodes-stack g c =
     node_left r c.args.fresh c.args.work c.args.nodes.now c.args.stack.now c.requires.standing c.requires.some no-frame
     first.next c.if-frame-eq4.false c.in-Some.grown c.in-Some.ensures c.requires.room
 
-pub overflow-sub-stack-in-Some : goal.overflow-sub-stack-in-Some
-overflow-sub-stack-in-Some g c =
+pub overflow_sub-stack-in-Some : goal.overflow_sub-stack-in-Some
+overflow_sub-stack-in-Some g c =
     let r = rules_of g.R.Roads g.S.Stowage c.args.ground in
     let first = first_stands r c.args.fresh c.args.work c.args.nodes.now c.args.stack.now c.requires.standing c.requires.some no-frame in
     frame_left r c.args.fresh c.args.work c.args.nodes.now c.args.stack.now c.requires.standing c.requires.some no-frame
@@ -52,9 +52,9 @@ returns-in-Some g c =
     stored r c.args.fresh c.args.work c.args.nodes.now c.args.stack.now c.requires.standing c.requires.some no-frame
     first.next c.if-frame-eq4.false c.in-Some.grown c.in-Some.ensures c.requires.work c.requires.room
 
-pub returns-in-default : goal.returns-in-default
-returns-in-default g c =
+pub returns-in_default : goal.returns-in_default
+returns-in_default g c =
     let r = rules_of g.R.Roads g.S.Stowage c.args.ground in
     let first = first_stands r c.args.fresh c.args.work c.args.nodes.now c.args.stack.now c.requires.standing c.requires.some no-frame in
     passed_over r c.args.fresh c.args.work c.args.nodes.now c.args.stack.now c.requires.standing c.requires.some no-frame
-    first.next c.if-frame-eq4.false c.in-default.ensures
+    first.next c.if-frame-eq4.false c.in_default.ensures

@@ -13,8 +13,8 @@ returns-in-Some g c =
     let old = own_slab c.args.nodes.now c.args.slabs in
     let all = replaced_along (rules_of g.R.Roads g.S.Stowage c.args.ground) (record { roads = g.met.R.Roads.lawful c.args.ground.roads.now; exchange = g.met.S.Stowage.exchange c.args.ground.rule.now })
     Nobody (below_root c.args.served old) (row_at c.args.nodes.now c.in-Some.below) (walk_of c.args.position) c.args.nodes.now c.args.slabs
-    c.regrow-along.new.nodes c.regrow-along.result (below_found c.args.nodes.now c.args.served old c.in-Some.below c.in-Some.ensures.found)
-    c.regrow-along.ensures.replaced c.regrow-along.ensures.count in
+    c.regrow_along.new.nodes c.regrow_along.result (below_found c.args.nodes.now c.args.served old c.in-Some.below c.in-Some.ensures.found)
+    c.regrow_along.ensures.replaced c.regrow_along.ensures.count in
     record { replaced = all.0; count = all.1; exact = all.2 }
 
 pub returns-in-None : goal.returns-in-None
@@ -22,6 +22,6 @@ returns-in-None g c =
     let old = own_slab c.args.nodes.now c.args.slabs in
     let all = replaced_along (rules_of g.R.Roads g.S.Stowage c.args.ground) (record { roads = g.met.R.Roads.lawful c.args.ground.roads.now; exchange = g.met.S.Stowage.exchange c.args.ground.rule.now })
     Nobody (below_root c.args.served old) (row c.args.nodes.now c.args.slabs.own c.args.slabs.own) (walk_of c.args.position) c.args.nodes.now c.args.slabs
-    c.regrow-along-in-None.new.nodes c.regrow-along-in-None.result (below_none c.args.nodes.now c.args.served old c.args.slabs.own c.in-None.ensures.found)
-    c.regrow-along-in-None.ensures.replaced c.regrow-along-in-None.ensures.count in
+    c.regrow_along-in-None.new.nodes c.regrow_along-in-None.result (below_none c.args.nodes.now c.args.served old c.args.slabs.own c.in-None.ensures.found)
+    c.regrow_along-in-None.ensures.replaced c.regrow_along-in-None.ensures.count in
     record { replaced = all.0; count = all.1; exact = all.2 }

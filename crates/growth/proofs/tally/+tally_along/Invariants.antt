@@ -8,8 +8,8 @@ use Rattle.growth.proofs.Tallies.{Tallied}
 use Rattle.growth.proofs.tally.+tally_along.Given as goal
 
 -- each call has one open stop less
-abbrev pub decreases-tally-along : goal.decreases-tally-along
-decreases-tally-along g l = stops (compact l.position.bookings)
+abbrev pub decreases-tally_along : goal.decreases-tally_along
+decreases-tally_along g l = stops (compact l.position.bookings)
 
 -- the tally so far, joined with that of the bookings yet to come, is the whole tally
 abbrev pub invariant-loop-i : goal.invariant-loop-i

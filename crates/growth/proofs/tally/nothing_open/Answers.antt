@@ -10,15 +10,15 @@ use Rattle.growth.proofs.tally.nothing_open.Goals as goal
 abbrev idle : List (Option Booking) → Bool
 idle bs = none_open (compact bs)
 
-pub returns-then-is-some : goal.returns-then-is-some
-returns-then-is-some c =
-    sym (open_some (get_or c.args.bookings.now c.loop-booking.booking-index None) (drop (c.loop-booking.booking-index + 1) c.args.bookings.now) c.if-is-some.ensures)
+pub returns-then-is_some : goal.returns-then-is_some
+returns-then-is_some c =
+    sym (open_some (get_or c.args.bookings.now c.loop-booking.booking-index None) (drop (c.loop-booking.booking-index + 1) c.args.bookings.now) c.if-is_some.ensures)
     ∙ sym (at_drop_more idle c.args.bookings.now c.loop-booking.booking-index None c.loop-booking-test.true)
     ∙ c.loop-booking.invariant
 
 pub loop-booking-preserved : goal.loop-booking-preserved
 loop-booking-preserved c =
-    sym (open_none (get_or c.args.bookings.now c.loop-booking.booking-index None) (drop (c.loop-booking.booking-index + 1) c.args.bookings.now) c.if-is-some.ensures)
+    sym (open_none (get_or c.args.bookings.now c.loop-booking.booking-index None) (drop (c.loop-booking.booking-index + 1) c.args.bookings.now) c.if-is_some.ensures)
     ∙ sym (at_drop_more idle c.args.bookings.now c.loop-booking.booking-index None c.loop-booking-test.true)
     ∙ c.loop-booking.invariant
 

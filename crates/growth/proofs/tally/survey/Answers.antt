@@ -7,7 +7,7 @@ use Rattle.growth.proofs.tally.survey.Goals as goal
 
 pub returns : goal.returns
 returns g c = record {
-  tallies = c.tally-along.ensures;
+  tallies = c.tally_along.ensures;
   exact = surveys (rules_of g.R.Roads g.S.Stowage c.args.ground) (record { roads = g.met.R.Roads.lawful c.args.ground.roads.now; exchange = g.met.S.Stowage.exchange c.args.ground.rule.now })
-      c.args.fresh (own_slab c.args.nodes.now c.args.slabs) (walk_of c.args.position) c.tally-along.result c.tally-along.ensures;
+      c.args.fresh (own_slab c.args.nodes.now c.args.slabs) (walk_of c.args.position) c.tally_along.result c.tally_along.ensures;
 }
