@@ -5,7 +5,7 @@ use Rattle.orders.specs.declared.Booking.{Booking}
 use Rattle.orders.specs.Bookings.{In, number_of, Above, Ascending}
 use Rattle.orders.proofs.Basics.{in_left, in_right, in_append}
 use Rattle.fleet.specs.declared.state.Van.{Van}
-use Rattle.fleet.specs.Sound.{numbers_on, open_numbers, is_lacks, is_once}
+use Rattle.fleet.specs.SoundTest.{numbers_on, open_numbers, is_lacks, is_once}
 
 -- what the test of a missing number tells, and the test from it
 lacking : (n : ℕ) (ns : List ℕ) → is_lacks n ns ≡ true → In n ns → ⊥

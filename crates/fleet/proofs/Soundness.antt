@@ -213,6 +213,7 @@ sound_at s h i w e = van_of s.clock s.open_limit w (subst (λ o. is_sound_place 
 pub sound_plainly : (s : State) → is_sound s ≡ true → plain.Sound s
 sound_plainly s h = record { some = known.some; four = known.four; each = λ i. by i (get_or s.vans i None) refl }
   where
+    known : Sound s
     known = sound_of s h
 
     by : (i : ℕ) (o : Option Van) → get_or s.vans i None ≡ o → plain.SoundPlace s.clock s.open_limit o

@@ -7,6 +7,6 @@ use Rattle.fleet.proofs.slots.insert_booking.Goals as goal
 
 pub returns : goal.returns
 returns c bs e h =
-    c.put-in.ensures
+    c.put_in.ensures
     ∙ ap (λ (l : List (Option Booking)). put_in c.args.booking (get_or l 0 None) (get_or l 1 None) (get_or l 2 None)) e
     ∙ put_in_slots c.args.booking bs h

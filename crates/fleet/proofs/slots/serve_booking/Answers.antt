@@ -7,8 +7,8 @@ use Rattle.fleet.proofs.Packed.{spread, compact_slots, in_place_slots, served_wa
 use Rattle.fleet.proofs.slots.serve_booking.Goals as goal
 
 -- what is looked for among the bookings is looked for in their places
-open-one : (n : ℕ) (held : List (Option Booking)) (bs : List Booking) → held ≡ slots bs → numbered n bs ≡ numbered n (compact held)
-open-one n held bs e = ap (numbered n) (sym (ap compact e ∙ compact_slots bs))
+open_one : (n : ℕ) (held : List (Option Booking)) (bs : List Booking) → held ≡ slots bs → numbered n bs ≡ numbered n (compact held)
+open_one n held bs e = ap (numbered n) (sym (ap compact e ∙ compact_slots bs))
 
 pub returns-in-Waiting : goal.returns-in-Waiting
 returns-in-Waiting c bs e h =
@@ -18,10 +18,10 @@ returns-in-Waiting c bs e h =
 
 pub returns-in-Aboard : goal.returns-in-Aboard
 returns-in-Aboard c bs e h =
-    c.remove-booking.ensures bs e h
+    c.remove_booking.ensures bs e h
     ∙ ap slots (sym (served_aboard c.args.driven c.args.n c.in-Aboard.since c.in-Aboard.journey bs
     (open_one c.args.n c.args.held bs e ∙ sym c.in-Some.ensures ∙ ap Some c.in-Aboard.is)))
 
-pub returns-in-default : goal.returns-in-default
-returns-in-default c bs e h =
-    e ∙ ap slots (sym (served_none c.args.driven c.args.n bs (open_one c.args.n c.args.held bs e ∙ sym c.find-booking.ensures ∙ c.in-default.is)))
+pub returns-in_default : goal.returns-in_default
+returns-in_default c bs e h =
+    e ∙ ap slots (sym (served_none c.args.driven c.args.n bs (open_one c.args.n c.args.held bs e ∙ sym c.find_booking.ensures ∙ c.in_default.is)))

@@ -10,7 +10,7 @@ returns-in-Some c =
     record {
       value =
           turn_van c.args.n c.args.vans c.loop-i.i _ c.loop-i.invariant (omega arith) (Some c.in-Some.booking)
-          (sym c.open-on.ensures ∙ c.in-Some.is);
+          (sym c.open_on.ensures ∙ c.in-Some.is);
       within = h;
     }
 
@@ -19,7 +19,7 @@ loop-i-preserved c =
     let all : length c.args.vans ≡ 32 = search rules in
     let h : c.loop-i.i < 32 = c.loop-i-test.true in
     turn_van c.args.n c.args.vans c.loop-i.i _ c.loop-i.invariant (omega arith) None
-    (sym c.open-on.ensures ∙ c.in-default.is)
+    (sym c.open_on.ensures ∙ c.in_default.is)
 
 pub returns : goal.returns
 returns c =

@@ -7,16 +7,16 @@ use Rattle.fleet.proofs.Packed.{compact_slots}
 use Rattle.fleet.proofs.Soundness.{sound_of, sound_at}
 use Rattle.fleet.proofs.state.State.served.Goals as goal
 
-pub returns-in-err-require-5 : goal.returns-in-err-require-5
-returns-in-err-require-5 g c =
+pub returns-in_err-require-5 : goal.returns-in_err-require-5
+returns-in_err-require-5 g c =
     let s = c.args.self.now in
     let w = c.in-Some.serving in
     let known = sound_of s c.requires in
     let sound = sound_at s known (c.args.van - 1) w c.in-Some.is in
     let few = sound.its.few in
     let four = known.four in
-    let e = c.serve-booking-bookings.ensures (open_bookings w) sound.its.packed (omega arith) in
-    let k : compact c.serve-booking-bookings.result ≡ served w.driven c.args.n (open_bookings w) = ap compact e ∙ compact_slots _ in
+    let e = c.serve_booking-bookings.ensures (open_bookings w) sound.its.packed (omega arith) in
+    let k : compact c.serve_booking-bookings.result ≡ served w.driven c.args.n (open_bookings w) = ap compact e ∙ compact_slots _ in
     search rules
 
 pub returns : goal.returns
@@ -27,6 +27,6 @@ returns g c =
     let sound = sound_at s known (c.args.van - 1) w c.in-Some.is in
     let few = sound.its.few in
     let four = known.four in
-    let e = c.serve-booking-bookings.ensures (open_bookings w) sound.its.packed (omega arith) in
-    let k : compact c.serve-booking-bookings.result ≡ served w.driven c.args.n (open_bookings w) = ap compact e ∙ compact_slots _ in
+    let e = c.serve_booking-bookings.ensures (open_bookings w) sound.its.packed (omega arith) in
+    let k : compact c.serve_booking-bookings.result ≡ served w.driven c.args.n (open_bookings w) = ap compact e ∙ compact_slots _ in
     search rules

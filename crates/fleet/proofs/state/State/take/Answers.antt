@@ -6,14 +6,14 @@ use Rattle.fleet.specs.States.{with_van, has_room, taken_by}
 use Rattle.fleet.proofs.Soundness.{sound_of, sound_at}
 use Rattle.fleet.proofs.state.State.take.Goals as goal
 
-pub returns-then-open-count-self : goal.returns-then-open-count-self
-returns-then-open-count-self c =
+pub returns-then-open_count-self : goal.returns-then-open_count-self
+returns-then-open_count-self c =
     let s = c.args.self.now in
     let w = c.in-Some.w in
     let known = sound_of s c.requires.sound in
     let sound = sound_at s known (c.args.van - 1) w c.in-Some.is in
-    let count = c.open-count.ensures in
-    let room = c.if-open-count-self.true in
+    let count = c.open_count.ensures in
+    let room = c.if-open_count-self.true in
     let few = sound.its.few in
     let four = known.four in
     ap (λ x. with_van s c.args.van (Some x)) (c.taking.ensures sound.its.packed (omega arith))
