@@ -7,7 +7,7 @@ fn main(rt: HostRuntime) -> io::Result<()> {
     let heap = rt.alloc();
     let mut desk = Desk::new();
     for line in BufReader::new(heap, rt.stdin())?.split(heap, b'\n') {
-        let line = is_line;
+        let line = line?;
         match desk.obey(read_command(heap, &line)?) {
             Reply::Nothing => {}
             reply => println!(rt; "{reply}")?,

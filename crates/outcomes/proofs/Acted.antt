@@ -7,7 +7,7 @@ use Rattle.fleet.specs.declared.refusal.Refusal.{Refusal}
 use Rattle.fleet.specs.declared.refusal.Refusal.TheVariants.{TooFewNodes}
 use Rattle.fleet.specs.declared.state.State.{State}
 use Rattle.fleet.specs.Refusals.{required}
-use Rattle.fleet.specs.States.{check, no_answer, Acts}
+use Rattle.fleet.specs.States.{check, no_answer, Acts, Changes}
 use Rattle.fleet.specs.SoundTest.{is_sound}
 use Rattle.fleet.proofs.Accepted.{never}
 use Rattle.outcomes.specs.Settled.{needed, Writes}
@@ -31,6 +31,16 @@ goes_on s count on h = ap (λ t. check t TooFewNodes on) (le-leb _ _ h)
 pub nothing_told : (o : Result State Refusal) (q : State × Unit {0}) → no_answer o ≡ Ok q → o ≡ Ok q.0
 nothing_told (Ok s) q e = let f : (s, tt) ≡ q = cc in ap (λ (p : State × Unit {0}). Ok p.0) f
 nothing_told (Err f) q e = absurd (never e)
+
+-- a call that changes the state, and has nothing to tell, acts
+pub acts : (o : Result State Refusal) (s s' : State) (r : Result (Unit {0}) Refusal) → Changes o s s' r → Acts (no_answer o) s s' r
+acts (Ok x) s s' r a = a
+acts (Err f) s s' r a = a
+
+-- and the other way round
+pub changes : (o : Result State Refusal) (s s' : State) (r : Result (Unit {0}) Refusal) → Acts (no_answer o) s s' r → Changes o s s' r
+changes (Ok x) s s' r a = a
+changes (Err f) s s' r a = a
 
 module _ {X : Type 0} (s s' : State) where
   -- an accepted call leads to a sound state, and a refused one leaves it

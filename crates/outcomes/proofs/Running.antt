@@ -24,7 +24,7 @@ use Rattle.outcomes.specs.Outcomes.{with_nodes, best_offer, given_to, of_request
 use Rattle.outcomes.specs.Fairness.{CanTake, Won, Fairly}
 use Rattle.outcomes.specs.Runs
 use Rattle.outcomes.proofs.Written.{unwritten}
-use Rattle.outcomes.proofs.Acted.{goes_on}
+use Rattle.outcomes.proofs.Acted.{goes_on, acts}
 use Rattle.outcomes.proofs.Exactly.{exact_of}
 use Rattle.outcomes.proofs.Fairly.{fair}
 
@@ -78,7 +78,7 @@ module _ (t : Terms) (c : Call) (s s' : State) (nodes nodes' : List Node) (a : A
   pub does_changes : (o : Result State Refusal) (r : Result (Unit {0}) Refusal) → Runs.told_as Runs.done (no_answer o) ≡ Runs.outcome t s c →
       Changes (with_nodes s (length nodes) o) s s' r → Writes t.rules s nodes (Runs.touched s c) (is_ok r) s' nodes' → a ≡ Runs.told Runs.done r → Runs.Does t c s nodes a s' nodes'
   does_changes o r same changes wrote e =
-      does_acts Runs.done (λ x. refl) (no_answer o) r same (subst (λ q. Acts q s s' r) (check_first (leb (needed s) (length nodes)) o) changes) wrote e
+      does_acts Runs.done (λ x. refl) (no_answer o) r same (subst (λ q. Acts q s s' r) (check_first (leb (needed s) (length nodes)) o) (acts (with_nodes s (length nodes) o) s s' r changes)) wrote e
 
 -- so does book
 pub does_book : (t : Terms) (n from to : ℕ) (figures : List ℕ) (s s' : State) (nodes nodes' : List Node) (a : Answer) (r : Result Booked Refusal) →

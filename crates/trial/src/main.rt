@@ -9,9 +9,9 @@ use largest::{DottedRoads, grow_three, survey_four};
 use orders::Node;
 use pair::{Ride, bound, cancelled, first, picked_up, second, stop};
 use roads::{Grid, RoadTable, Roads};
-use van_slab::{Itinerary, cheapest_order, order_at};
 use std::io;
 use stowage::{Load, Parcels, Passengers, Stowage};
+use van_slab::{Itinerary, cheapest_order, order_at};
 
 /// Prints an order: its cost and its stops.
 fn print_order(rt: &HostRuntime, order: Itinerary) -> io::Result<()> {
