@@ -1,5 +1,5 @@
 -- Defines the text of each reply.
-use Rattle.std.specs.Prelude.{ℕ, ◌+◌, cond, List, [], ◌∷◌, ◌++◌, codes, decimal, ◌==◌}
+use Rattle.std.specs.Prelude.{ℕ, cond, List, [], ◌++◌, codes, decimal, ◌==◌}
 use Rattle.stowage.specs.declared.Promise.{Promise}
 use Rattle.console.specs.declared.reply.Refusal.{Refusal}
 use Rattle.console.specs.declared.reply.Reply.{Reply}

@@ -1,4 +1,6 @@
 //! Reads a day from standard input, a line at a time, and prints what each line is answered.
+#![tactic(auto)]
+
 use console::{Desk, Reply, Tally, read_command};
 use std::io;
 use std::io::{BufRead, BufReader};

@@ -1,5 +1,5 @@
 -- Shows what is known of the state where a call is accepted.
-use Rattle.std.proofs.Common.{◌≡◌, ℕ, ◌+◌, ◌<◌, ◌≤◌, Bool, true, false, cond, not, ◌&&◌, eqb, ltb, leb, List, length, get_or, set, is_some, Some, None, Ok, Err, Option, Result, sym, refl, ap, ◌∙◌, arith}
+use Rattle.std.proofs.Common.{◌≡◌, ℕ, ◌+◌, ◌<◌, ◌≤◌, Bool, true, false, cond, not, ◌&&◌, eqb, ltb, leb, List, get_or, is_some, Some, None, Ok, Err, Option, Result, sym, refl, ap, ◌∙◌, arith}
 use Rattle.std.proofs.lemmas.Bool.{and_parts, leb-true, eqb-true, ltb-true, not-true}
 use Rattle.roads.specs.Roads.{between}
 use Rattle.stowage.specs.Figures.{week}
@@ -9,7 +9,7 @@ use Rattle.orders.specs.declared.Booking.TheVariants.{Waiting, Aboard}
 use Rattle.orders.specs.declared.Journey.{Journey}
 use Rattle.orders.specs.declared.Stop.{Stop}
 use Rattle.orders.specs.Rules.{Rules}
-use Rattle.orders.specs.Bookings.{number_of, next_stop, served}
+use Rattle.orders.specs.Bookings.{next_stop, served}
 use Rattle.fleet.specs.declared.refusal.Refusal.{Refusal}
 use Rattle.fleet.specs.declared.state.State.{State}
 use Rattle.fleet.specs.declared.state.Van.{Van}

@@ -1,5 +1,5 @@
 -- Defines the number and the values of each answer.
-use Rattle.std.specs.Prelude.{ℕ, Bool, true, false, List, [], ◌∷◌, ◌++◌}
+use Rattle.std.specs.Prelude.{ℕ, Bool, true, false, List, [], ◌∷◌}
 use Rattle.van_slab.specs.declared.Visit.{Visit}
 use Rattle.fleet.specs.declared.call.Answer.{Answer}
 use Rattle.fleet.specs.declared.call.Answer.TheVariants.{Done, Booked, Served, Listed, Refused}

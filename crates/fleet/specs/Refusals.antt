@@ -1,5 +1,5 @@
 -- Defines the number and the detail of each refusal, and that the first failing check refuses a call.
-use Rattle.std.specs.Prelude.{◌≡◌, ℕ, Bool, true, false, List, [], ◌∷◌, Some, None, Ok, Err, Option, Result}
+use Rattle.std.specs.Prelude.{ℕ, Bool, true, false, Ok, Err, Result}
 use Rattle.fleet.specs.declared.refusal.Refusal.{Refusal}
 use Rattle.fleet.specs.declared.refusal.Refusal.TheVariants.{VanCount, OpenLimit, TooFewNodes, BeyondWeek, NoSuchVan, OnDuty, OffDuty, NoSuchPlace, TooEarly, HasBookings, BadNumber, AlreadyOpen, NotOpen, BadFigure, NoVan, Aboard, NotThere, DoesNotFit, NoOrder}
 

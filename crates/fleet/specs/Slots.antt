@@ -1,5 +1,5 @@
 -- Defines the four places for a van's open bookings, and how they change.
-use Rattle.std.specs.Prelude.{◌≡◌, ℕ, ◌-◌, Bool, true, false, cond, not, List, [], ◌∷◌, ◌++◌, map, length, replicate, Some, None, Option, ◌==◌, nat_le}
+use Rattle.std.specs.Prelude.{ℕ, ◌-◌, Bool, false, cond, not, List, [], ◌∷◌, ◌++◌, map, length, replicate, Some, None, Option, ◌==◌, nat_le}
 use Rattle.orders.specs.declared.Booking.{Booking}
 use Rattle.orders.specs.Bookings.{number_of}
 

@@ -1,4 +1,6 @@
 //! The present state of a fleet of vans, the calls on it and their checks, and what an accepted call changes.
+#![tactic(auto)]
+
 mod booking;
 mod call;
 mod calls;

@@ -1,5 +1,7 @@
 //! The kinetic tree in node memory: it is grown, pruned and surveyed where it is stored, by one text for all roads and
 //! stowage rules.
+#![tactic(auto)]
+
 use roads::Roads;
 use stowage::Stowage;
 

@@ -1,23 +1,23 @@
 -- Shows that what is read from settled memory for a booking is what the present state says, and that memory is settled after it.
-use Rattle.std.proofs.Common.{◌≡◌, ℕ, zero, suc, ◌+◌, ◌-◌, ◌*◌, ◌<◌, ◌≤◌, Bool, true, false, cond, ◌&&◌, eqb, ltb, List, [], ◌∷◌, map, length, get_or, drop, replicate, Some, None, Ok, Err, Option, sym, refl, ap, ◌∙◌, subst, add-one, arith}
+use Rattle.std.proofs.Common.{◌≡◌, ℕ, zero, suc, ◌+◌, ◌-◌, ◌<◌, ◌≤◌, Bool, true, false, cond, ◌&&◌, eqb, List, [], ◌∷◌, map, length, get_or, drop, replicate, Some, None, Ok, Err, Option, sym, refl, ap, ◌∙◌, subst, add-one, arith}
 use Rattle.std.specs.Option.{option_map}
 use Rattle.std.proofs.lemmas.List.{length-append, length-map, length-replicate, drop_more, drop_all}
 use Rattle.std.proofs.lemmas.Bool.{cond-true, cond-false, le-leb, and_from, ltb-true}
 use Rattle.orders.specs.declared.Booking.{Booking}
 use Rattle.orders.specs.declared.Node.{Node}
 use Rattle.fleet.specs.declared.call.Offer.{Offer}
-use Rattle.orders.specs.Bookings.{number_of, insert, Ascending, New}
+use Rattle.orders.specs.Bookings.{number_of, insert, Ascending}
 use Rattle.orders.specs.Rules.{Rules, Lawful}
-use Rattle.orders.specs.Walks.{Walk, van}
+use Rattle.orders.specs.Walks.{van}
 use Rattle.orders.proofs.Inserted.{insert_ascending, insert_length}
 use Rattle.orders.specs.Moves.{with_booking}
-use Rattle.orders.specs.Orders.{Order, cheapest}
+use Rattle.orders.specs.Orders.{Order}
 use Rattle.orders.specs.Slabs.{slab}
 use Rattle.orders.specs.Trees.{tree_row, nodes, orders_of, valid_orders}
 use Rattle.van_slab.specs.declared.Itinerary.{Itinerary}
 use Rattle.van_slab.specs.declared.Visit.{Visit}
 use Rattle.van_slab.specs.Trails.{told, cheapest_trail, no_visit}
-use Rattle.van_slab.specs.Laws.{Open, order_of, slab_trails}
+use Rattle.van_slab.specs.Laws.{order_of, slab_trails}
 use Rattle.van_slab.proofs.Exact.{exact_reading}
 use Rattle.growth.specs.declared.guide.Fresh.TheVariants.{Only}
 use Rattle.growth.specs.declared.memory.Slabs.{Slabs}
@@ -40,8 +40,8 @@ use Rattle.fleet.specs.Terms.{Terms}
 use Rattle.fleet.specs.declared.refusal.Refusal.TheVariants.{NoVan}
 use Rattle.fleet.proofs.Accepted as accepted
 use Rattle.fleet.proofs.Packed.{compact_slots}
-use Rattle.fleet.proofs.Soundness.{Sound, SoundVan, sound_of, sound_at, number_within, new_to_van}
-use Rattle.outcomes.specs.Settled.{slab_nodes, needed, slab_at, van_row, van_slab, Settled, Writes, Regrown, roomy_vans}
+use Rattle.fleet.proofs.Soundness.{sound_of, sound_at, number_within, new_to_van}
+use Rattle.outcomes.specs.Settled.{slab_nodes, needed, slab_at, van_row, Settled, Writes, Regrown, roomy_vans}
 use Rattle.outcomes.specs.Offers.{difference, bid, read_bid, read_least, read_with, plan_in, plan_of, best_of, better, second_of, told_booked, visits_of}
 use Rattle.outcomes.specs.Outcomes.{told_plan, told_offer, plan_at, best_offer, of_request, given_to, book_call, Given}
 use Rattle.outcomes.proofs.Bids.{Best, best}

@@ -1,13 +1,12 @@
 -- Shows that node memory follows the clock: van after van that waits is pruned.
-use Rattle.std.proofs.Common.{◌≡◌, ℕ, ◌+◌, ◌-◌, ◌*◌, ◌<◌, ◌≤◌, Bool, true, false, cond, ◌&&◌, ltb, ◌⊎◌, List, [], map, length, get_or, replicate, Some, None, Ok, Option, sym, refl, ap, ◌∙◌, subst, inl, inr, ⊎_elim, arith}
+use Rattle.std.proofs.Common.{◌≡◌, ℕ, ◌+◌, ◌-◌, ◌<◌, ◌≤◌, Bool, true, false, cond, ◌&&◌, ltb, List, length, get_or, Some, None, Ok, Option, sym, refl, ap, ◌∙◌, subst, ⊎_elim, arith}
 use Rattle.std.proofs.lemmas.List.{get_or-map}
 use Rattle.std.proofs.lemmas.Bool.{and_parts, ltb-true, cases_eq, cases_Bool, both_ways, cond-true}
 use Rattle.orders.specs.declared.Node.{Node}
 use Rattle.orders.specs.Rules.{Rules}
-use Rattle.orders.specs.Trees.{tree_row}
 use Rattle.orders.specs.Slabs.{slab}
 use Rattle.growth.specs.declared.guide.Fresh.TheVariants.{Nobody}
-use Rattle.growth.specs.Changes.{Suffices, clock}
+use Rattle.growth.specs.Changes.{clock}
 use Rattle.growth.proofs.Places.{other_slab}
 use Rattle.fleet.specs.declared.state.State.{State}
 use Rattle.fleet.specs.declared.state.Van.{Van}

@@ -1,5 +1,5 @@
 -- Shows that node memory is settled after each call that changes one van: join, leave, bound, served, cancel.
-use Rattle.std.proofs.Common.{◌≡◌, ℕ, ◌+◌, ◌-◌, ◌*◌, ◌<◌, ◌≤◌, Bool, true, false, cond, eqb, ltb, leb, ◌⊎◌, List, [], ◌∷◌, ◌++◌, length, get_or, set, is_some, Some, None, Ok, Option, sym, refl, ap, ◌∙◌, subst, inl, inr, ⊎_elim, arith}
+use Rattle.std.proofs.Common.{◌≡◌, ℕ, ◌+◌, ◌-◌, ◌<◌, ◌≤◌, Bool, true, false, cond, eqb, ltb, leb, ◌⊎◌, List, [], ◌∷◌, ◌++◌, length, get_or, set, is_some, Some, None, Ok, Option, sym, refl, ap, ◌∙◌, subst, inl, inr, ⊎_elim, arith}
 use Rattle.std.proofs.lemmas.List.{get_or-set_same, get_or-set_other, nil_from_length}
 use Rattle.std.proofs.lemmas.Bool.{and_parts, and_from, eqb-true, ltb-true, ltb-false, le-leb, cases_eq}
 use Rattle.stowage.specs.Together.{stowed}
@@ -14,7 +14,7 @@ use Rattle.orders.specs.Laws.{below_root}
 use Rattle.orders.specs.Trees.{tree_row, kinetic_tree, grow, children}
 use Rattle.orders.specs.Slabs.{slab}
 use Rattle.growth.specs.declared.guide.Fresh.{Fresh}
-use Rattle.growth.specs.declared.guide.Fresh.TheVariants.{Only, Nobody, Everybody}
+use Rattle.growth.specs.declared.guide.Fresh.TheVariants.{Nobody, Everybody}
 use Rattle.growth.specs.Changes.{Suffices, bound, served, anew}
 use Rattle.fleet.specs.declared.state.State.{State}
 use Rattle.fleet.specs.declared.state.Van.{Van}
@@ -24,7 +24,7 @@ use Rattle.fleet.specs.SoundTest.{is_sound}
 use Rattle.fleet.proofs.Accepted as accepted
 use Rattle.fleet.proofs.Packed.{compact_slots}
 use Rattle.fleet.proofs.Soundness.{SoundVan, sound_of, sound_at, number_within, within_size}
-use Rattle.outcomes.specs.Settled.{slab_nodes, needed, slab_at, van_row, has_tree, Settled, Writes, Regrown, RegrownIf, RegrownAfter, as_ordered, untouched, one_van, holding_van}
+use Rattle.outcomes.specs.Settled.{slab_nodes, needed, slab_at, van_row, has_tree, Writes, Regrown, RegrownIf, RegrownAfter, as_ordered, untouched, one_van, holding_van}
 use Rattle.outcomes.proofs.Written.{one_written}
 
 -- a booking that is found by its number is open, and has that number

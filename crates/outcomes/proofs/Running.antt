@@ -1,9 +1,8 @@
 -- Shows that what each call does makes it a step of a run.
 use Rattle.std.proofs.Common.{◌≡◌, ℕ, ◌+◌, ◌<◌, ◌≤◌, Bool, true, false, leb, ◌⊎◌, ◌↔◌, List, [], ◌∷◌, ◌++◌, length, get_or, take, drop, set, is_ok, Ok, Err, Result, sym, refl, ap, ◌∙◌, subst, inl, inr, arith}
 use Rattle.std.proofs.lemmas.List.{take_more, take_more_set, drop-set-lt, drop-drop}
-use Rattle.orders.specs.declared.Booking.{Booking}
 use Rattle.orders.specs.declared.Node.{Node}
-use Rattle.orders.specs.Rules.{Rules, Lawful}
+use Rattle.orders.specs.Rules.{Lawful}
 use Rattle.van_slab.specs.declared.Itinerary.{Itinerary}
 use Rattle.fleet.specs.declared.call.Booked.{Booked}
 use Rattle.fleet.specs.declared.call.Call.{Call}
@@ -11,12 +10,12 @@ use Rattle.fleet.specs.declared.call.Call.TheVariants.{Clock, Join, Leave, Book,
 use Rattle.fleet.specs.declared.call.Answer.{Answer}
 use Rattle.fleet.specs.declared.call.Answer.TheVariants as answer
 use Rattle.fleet.specs.declared.refusal.Refusal.{Refusal}
-use Rattle.fleet.specs.declared.refusal.Refusal.TheVariants.{TooFewNodes, NoVan}
+use Rattle.fleet.specs.declared.refusal.Refusal.TheVariants.{TooFewNodes}
 use Rattle.fleet.specs.declared.state.State.{State}
 use Rattle.fleet.specs.Answers.{answer_number, accepted}
 use Rattle.fleet.specs.Refusals.{refusal_number}
 use Rattle.fleet.specs.SoundTest.{is_sound}
-use Rattle.fleet.specs.States.{check, requested, promised, no_answer, Acts, Changes}
+use Rattle.fleet.specs.States.{check, requested, no_answer, Acts, Changes}
 use Rattle.fleet.specs.Terms.{Terms}
 use Rattle.fleet.proofs.Accepted as known
 use Rattle.outcomes.specs.Settled.{needed, Settled, Writes, roomy_vans}

@@ -1,6 +1,6 @@
 -- Shows that a new dispatcher's state is sound and its vans are housed, and that blank nodes are settled for it.
-use Rattle.std.proofs.Common.{◌≡◌, ℕ, zero, suc, ◌+◌, ◌-◌, ◌*◌, ◌<◌, ◌≤◌, Bool, true, ◌&&◌, leb, List, [], ◌++◌, length, get_or, take, drop, replicate, None, Ok, Err, Option, sym, refl, ap, ◌∙◌, subst, mul-le-mul_right, add-mul, one-mul, arith}
-use Rattle.std.proofs.lemmas.List.{length-append, length-replicate, length-drop, drop-append-le, drop-replicate, take-append-le, take-replicate}
+use Rattle.std.proofs.Common.{◌≡◌, ℕ, zero, suc, ◌+◌, ◌-◌, ◌*◌, ◌≤◌, true, ◌&&◌, leb, List, ◌++◌, length, get_or, take, drop, replicate, None, Ok, Option, sym, refl, ap, ◌∙◌, subst, add-mul, one-mul, arith}
+use Rattle.std.proofs.lemmas.List.{length-append, length-replicate, drop-append-le, drop-replicate, take-append-le, take-replicate}
 use Rattle.std.proofs.lemmas.Bool.{and_parts, leb-true, le-leb}
 use Rattle.orders.specs.declared.Node.{Node}
 use Rattle.orders.specs.Bookings.{In}
@@ -16,9 +16,9 @@ use Rattle.fleet.specs.SoundTest.{is_sound_place, is_all_off, numbers_on, is_sou
 use Rattle.fleet.specs.States.{check}
 use Rattle.fleet.specs.Housed.{Housed}
 use Rattle.fleet.proofs.Accepted.{none_some}
-use Rattle.fleet.proofs.Soundness.{Sound, sound_test}
-use Rattle.outcomes.specs.Settled.{slab_nodes, needed, slab_at, van_row, van_slab, Settled}
-use Rattle.outcomes.specs.Outcomes.{new_state, make_call, Made}
+use Rattle.fleet.proofs.Soundness.{sound_test}
+use Rattle.outcomes.specs.Settled.{needed, van_row, Settled}
+use Rattle.outcomes.specs.Outcomes.{new_state, Made}
 
 -- no van is on duty
 abbrev nobody : ℕ → List (Option Van)

@@ -1,15 +1,14 @@
 -- Shows what a van's new tree in its slab does to node memory as a whole.
-use Rattle.std.proofs.Common.{◌≡◌, ℕ, ◌+◌, ◌-◌, ◌*◌, ◌<◌, ◌≤◌, Bool, true, false, List, [], length, get_or, take, drop, set, replicate, Some, None, Option, sym, refl, ap, ◌∙◌, subst, ⊎_elim, add-mul, one-mul, arith}
+use Rattle.std.proofs.Common.{◌≡◌, ℕ, ◌+◌, ◌-◌, ◌*◌, ◌<◌, ◌≤◌, Bool, true, List, length, take, drop, Some, None, Option, sym, refl, ap, ◌∙◌, subst, ⊎_elim, add-mul, one-mul, arith}
 use Rattle.std.proofs.lemmas.List.{get_or-set_same, get_or-set_other, take_all, length-drop}
 use Rattle.std.proofs.lemmas.Bool.{cases_eq}
 use Rattle.orders.specs.declared.Node.{Node}
 use Rattle.orders.specs.Rules.{Rules}
-use Rattle.orders.specs.Trees.{tree_row}
-use Rattle.orders.specs.Slabs.{slab_size, blank, slab}
+use Rattle.orders.specs.Slabs.{slab}
 use Rattle.growth.specs.declared.guide.Fresh.{Fresh}
 use Rattle.growth.specs.declared.memory.Slabs.{Slabs}
 use Rattle.growth.specs.declared.walk.Position.{Position}
-use Rattle.growth.specs.Guides.{row, grown_row}
+use Rattle.growth.specs.Guides.{grown_row}
 use Rattle.growth.specs.Changes.{Suffices}
 use Rattle.growth.specs.Positions.{compact, walk_of}
 use Rattle.growth.specs.Positions as positions
@@ -17,7 +16,7 @@ use Rattle.growth.specs.Slabs.{slabs_at, own_slab, Laid, Roomy, Replaced, Holds}
 use Rattle.growth.proofs.Places.{laid, other_slab}
 use Rattle.fleet.specs.declared.state.State.{State}
 use Rattle.fleet.specs.declared.state.Van.{Van}
-use Rattle.fleet.specs.States.{is_van, van_at, van_walk, position_of}
+use Rattle.fleet.specs.States.{is_van, van_at, position_of}
 use Rattle.fleet.specs.SoundTest.{is_sound}
 use Rattle.fleet.proofs.Soundness.{Sound, SoundVan, sound_of, sound_at, number_within, at_index}
 use Rattle.outcomes.specs.Settled.{slab_nodes, needed, slab_at, van_row, van_slab, Settled, Writes, Regrown}

@@ -20,7 +20,7 @@ use Rattle.growth.specs.Surveys.{least_cost}
 use Rattle.fleet.specs.declared.call.Booked.{Booked}
 use Rattle.fleet.specs.declared.state.State.{State}
 use Rattle.fleet.specs.declared.state.Van.{Van}
-use Rattle.fleet.specs.States.{van_walk, open_bookings, van_at, has_room}
+use Rattle.fleet.specs.States.{van_walk, open_bookings, has_room}
 use Rattle.outcomes.specs.Settled.{slab_nodes}
 
 -- by how much the second cost is above the first, where there are both

@@ -1,8 +1,7 @@
 -- Defines what a call does to a machine, and a run of calls, in the words of valid orders.
-use Rattle.std.specs.Prelude.{◌≡◌, ℕ, Bool, false, ◌⊎◌, ◌↔◌, List, [], ◌∷◌, length, drop, Ok, Err, Result}
+use Rattle.std.specs.Prelude.{◌≡◌, ℕ, false, ◌⊎◌, ◌↔◌, List, [], ◌∷◌, length, drop, Ok, Err, Result}
 use Rattle.orders.specs.declared.Booking.{Booking}
 use Rattle.orders.specs.declared.Node.{Node}
-use Rattle.orders.specs.Rules.{Rules}
 use Rattle.van_slab.specs.declared.Itinerary.{Itinerary}
 use Rattle.fleet.specs.declared.call.Booked.{Booked}
 use Rattle.fleet.specs.declared.call.Call.{Call}

@@ -1,5 +1,7 @@
 //! What each call leads to from the present state, and what node memory then holds: definitions, in specs/, and the laws that
 //! the dispatcher rests on.
+#![tactic(auto)]
+
 ghost use Rattle.orders.specs.Rules.{rules};
 ghost use Rattle.outcomes.specs.Fairness.{TellsAll, Fair};
 

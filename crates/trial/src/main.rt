@@ -1,6 +1,8 @@
 //! Trees in node memory, run: two bookings come to a van, it drives to the first and picks it up, and the second is
 //! cancelled, under two rules on two kinds of roads; then the largest tree, with a dot for each position that its survey
 //! visits.
+#![tactic(auto)]
+
 mod largest;
 mod pair;
 

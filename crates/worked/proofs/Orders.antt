@@ -1,9 +1,8 @@
 -- An example of orders holds if the tree of its van, computed, says so: by exactness it lists just the valid orders.
-use Rattle.std.proofs.Common.{◌≡◌, ℕ, ◌+◌, Bool, true, false, ◌||◌, ◌⊎◌, ◌↔◌, List, [], ◌∷◌, length, Some, sym, refl, ap, ◌∙◌, subst, inl, inr, arith}
+use Rattle.std.proofs.Common.{◌≡◌, ℕ, ◌+◌, Bool, true, false, ◌||◌, ◌↔◌, List, [], ◌∷◌, Some, refl, ap, subst, inl, inr}
 use Rattle.std.specs.Str.{bytes_eq}
 use Rattle.std.proofs.lemmas.Slice.Eq.{bytes_eq-Decides}
 use Rattle.std.proofs.lemmas.Bool.{both_ways}
-use Rattle.orders.specs.declared.Booking.{Booking}
 use Rattle.orders.specs.Bookings.{In}
 use Rattle.orders.specs.Moves.{with_booking}
 use Rattle.orders.specs.Orders.{Order, Least, cheapest}

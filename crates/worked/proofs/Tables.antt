@@ -1,7 +1,7 @@
 -- A table is judged by tests that are computed over all its places.
-use Rattle.std.proofs.Common.{◌≡◌, ℕ, zero, suc, ◌<◌, ◌≤◌, Bool, true, false, not, ◌&&◌, List, [], ◌∷◌, length, get_or, sym, refl, subst, ⊎_elim, arith}
+use Rattle.std.proofs.Common.{◌≡◌, ℕ, zero, suc, ◌<◌, Bool, true, false, not, ◌&&◌, List, length, get_or, sym, refl, subst, ⊎_elim, arith}
 use Rattle.std.proofs.lemmas.Bool.{and_parts, cases_eq}
-use Rattle.roads.specs.Tables.{Square, NoneBad, NoShortcut, LawfulTable, bad_entry, shortcut, table_trip}
+use Rattle.roads.specs.Tables.{Square, NoneBad, LawfulTable, bad_entry, shortcut, table_trip}
 use Rattle.roads.proofs.Tables.{all_lawful}
 
 -- the test fails at each number below n

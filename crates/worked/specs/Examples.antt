@@ -1,5 +1,5 @@
 -- The worked examples: a table of rows, and what it is for a row to hold.
-use Rattle.std.specs.Prelude.{◌≡◌, ℕ, ◌<◌, ◌≤◌, true, false, ◌↔◌, List, [], ◌∷◌, length, is_some, Ok}
+use Rattle.std.specs.Prelude.{◌≡◌, ℕ, true, false, ◌↔◌, List, [], ◌∷◌, length, is_some, Ok}
 use Rattle.roads.specs.Faults.{fault_number, fault_detail}
 use Rattle.roads.specs.TableFaults.{Refuses}
 use Rattle.roads.specs.Tables.{LawfulTable}

@@ -1,4 +1,6 @@
 //! Worked examples, proved as rows of one table.
+#![tactic(auto)]
+
 ghost use Rattle.std.specs.Prelude.{◌≡◌, length};
 ghost use Rattle.std.specs.List.{AllByRecursion};
 ghost use Rattle.worked.specs.Examples.{Holds, rows};

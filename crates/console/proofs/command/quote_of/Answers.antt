@@ -1,8 +1,8 @@
 -- Of eight numbers, those from the third on are the six figures.
-use Rattle.std.proofs.Common.{◌≡◌, ℕ, ◌<◌, eqb, List, [], ◌∷◌, length, get_or, drop, sym, refl, ap, ◌∙◌, arith, drop-cons, rules}
+use Rattle.std.proofs.Common.{◌≡◌, ℕ, eqb, List, [], ◌∷◌, length, get_or, drop, sym, ap, ◌∙◌, arith, drop-cons, rules}
 use Rattle.std.proofs.lemmas.List.{drop_all}
 use Rattle.std.proofs.lemmas.Bool.{cond-true, eq-eqb}
-use Rattle.console.specs.Lines.{quote, as_quote}
+use Rattle.console.specs.Lines.{quote}
 use Rattle.console.proofs.command.quote_of.Goals as goal
 
 six : (n : List ℕ) → length n ≡ 8 → get_or n 2 0 ∷ get_or n 3 0 ∷ get_or n 4 0 ∷ get_or n 5 0 ∷ get_or n 6 0 ∷ get_or n 7 0 ∷ [] ≡ drop 2 n

@@ -1,5 +1,5 @@
 -- The four places one after the other.
-use Rattle.std.proofs.Common.{◌≡◌, ℕ, ◌+◌, List, [], ◌∷◌, length, get_or, Some, None, Option, sym, ap, ◌∙◌, arith, rules}
+use Rattle.std.proofs.Common.{◌≡◌, ◌+◌, List, [], ◌∷◌, length, get_or, Some, None, Option, ap, arith, rules}
 use Rattle.orders.specs.declared.Booking.{Booking}
 use Rattle.growth.specs.Positions.{compact}
 use Rattle.fleet.proofs.Packed.{four_of}

@@ -1,5 +1,5 @@
 -- The four places one after the other.
-use Rattle.std.proofs.Common.{◌≡◌, get_or, None, sym, ap, ◌∙◌, rules}
+use Rattle.std.proofs.Common.{get_or, None, sym, ap, ◌∙◌, rules}
 use Rattle.growth.specs.Positions.{compact}
 use Rattle.fleet.specs.Slots.{numbered}
 use Rattle.fleet.proofs.Packed.{pick_compact, four_of}

@@ -1,5 +1,5 @@
 -- The three places in front are those of the bookings.
-use Rattle.std.proofs.Common.{◌≡◌, List, get_or, None, Option, ap, ◌∙◌}
+use Rattle.std.proofs.Common.{List, get_or, None, Option, ap, ◌∙◌}
 use Rattle.orders.specs.declared.Booking.{Booking}
 use Rattle.fleet.specs.Slots.{put_in}
 use Rattle.fleet.proofs.Packed.{put_in_slots}

@@ -1,5 +1,5 @@
 -- The four places are those of the bookings.
-use Rattle.std.proofs.Common.{◌≡◌, ap, ◌∙◌}
+use Rattle.std.proofs.Common.{ap, ◌∙◌}
 use Rattle.fleet.specs.Slots.{take_out}
 use Rattle.fleet.proofs.Packed.{spread, take_out_slots}
 use Rattle.fleet.proofs.slots.remove_booking.Goals as goal

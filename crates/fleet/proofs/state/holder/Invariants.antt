@@ -1,4 +1,4 @@
-use Rattle.std.proofs.Common.{◌≡◌, length, drop}
+use Rattle.std.proofs.Common.{◌≡◌, drop}
 use Rattle.fleet.specs.States.{holder_of}
 use Rattle.fleet.proofs.state.holder.Given as goal
 

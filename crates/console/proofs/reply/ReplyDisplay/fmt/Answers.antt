@@ -1,7 +1,7 @@
 -- A promise's text is written in two halves.
 use Rattle.std.proofs.Common.{sym, subst, append_assoc}
 use Rattle.std.specs.Fmt.{WritesOnOk}
-use Rattle.console.specs.Replies.{promise_text, reply_text}
+use Rattle.console.specs.Replies.{reply_text}
 use Rattle.console.specs.declared.reply.Reply.{Reply}
 use Rattle.console.proofs.reply.ReplyDisplay.fmt.Goals as goal
 

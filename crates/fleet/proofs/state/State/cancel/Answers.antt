@@ -1,5 +1,5 @@
 -- The booking is taken off the van that holds it.
-use Rattle.std.proofs.Common.{◌≡◌, ◌≤◌, length, Some, sym, ap, ◌∙◌, subst, arith}
+use Rattle.std.proofs.Common.{Some, sym, ap, ◌∙◌, subst, arith}
 use Rattle.growth.specs.Positions.{compact}
 use Rattle.fleet.specs.Sound.{SoundPlace, SoundVan}
 use Rattle.fleet.proofs.Vans.{cancel_changes}

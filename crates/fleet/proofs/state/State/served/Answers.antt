@@ -1,5 +1,5 @@
 -- The bookings' places after service are those of the bookings then open.
-use Rattle.std.proofs.Common.{◌≡◌, ◌-◌, sym, ap, ◌∙◌, arith, rules}
+use Rattle.std.proofs.Common.{◌≡◌, ◌-◌, ap, ◌∙◌, arith, rules}
 use Rattle.orders.specs.Bookings.{served}
 use Rattle.growth.specs.Positions.{compact}
 use Rattle.fleet.specs.States.{open_bookings}

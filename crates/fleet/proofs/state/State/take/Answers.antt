@@ -1,7 +1,6 @@
 -- The van has room, and takes the booking.
-use Rattle.std.proofs.Common.{◌≡◌, ◌-◌, Some, sym, ap, ◌∙◌, arith}
+use Rattle.std.proofs.Common.{◌-◌, Some, sym, ap, ◌∙◌, arith}
 use Rattle.std.proofs.lemmas.Bool.{cond-true, lt-ltb}
-use Rattle.fleet.specs.declared.state.Van.{Van}
 use Rattle.fleet.specs.States.{with_van, has_room, taken_by}
 use Rattle.fleet.proofs.Soundness.{sound_of, sound_at}
 use Rattle.fleet.proofs.state.State.take.Goals as goal

@@ -1,7 +1,7 @@
 -- Each turn one more van has waited.
-use Rattle.std.proofs.Common.{◌≡◌, ◌<◌, ◌≤◌, ap, ◌∙◌, arith}
+use Rattle.std.proofs.Common.{ap, ◌∙◌, arith}
 use Rattle.fleet.specs.States.{waited}
-use Rattle.fleet.proofs.Vans.{with_vans, changed_to, one_more, all_changed}
+use Rattle.fleet.proofs.Vans.{with_vans, one_more, all_changed}
 use Rattle.fleet.proofs.state.State.wait_all.Goals as goal
 
 pub loop-i-preserved : goal.loop-i-preserved
