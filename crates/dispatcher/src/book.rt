@@ -16,8 +16,8 @@ use fleet::{Booked, Offer, Refusal, State, require};
 use growth::{Fresh, Ground, survey};
 use orders::{Booking, Node};
 use roads::Roads;
-use van_slab::{Itinerary, Visit};
 use stowage::Stowage;
+use van_slab::{Itinerary, Visit};
 
 /// By how much the least cost with a booking, if there is one, is above that without it.
 fn price_of(without: u32, with: Option<u32>) -> Option<u32>

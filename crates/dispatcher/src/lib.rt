@@ -1,4 +1,6 @@
 //! The running dispatcher: the calls, each with what it leads to, on the present state and on node memory.
+#![tactic(auto)]
+
 mod book;
 mod calls;
 mod clock;

@@ -9,8 +9,8 @@ use fleet::{Refusal, State, require};
 use growth::{Ground, clear};
 use orders::Node;
 use roads::Roads;
-use van_slab::OpenLimit;
 use stowage::Stowage;
+use van_slab::OpenLimit;
 
 /// The most vans.
 const MOST_VANS: u32 = 32;

@@ -14,8 +14,8 @@ use fleet::State;
 use growth::{Fresh, Ground, Slabs, prune, regrow, slabs_of};
 use orders::Node;
 use roads::Roads;
-use van_slab::OpenLimit;
 use stowage::Stowage;
+use van_slab::OpenLimit;
 
 /// The open limit of a sound state.
 pub(crate) fn limit_of(state: &State) -> OpenLimit

@@ -8,8 +8,8 @@ use crate::Dispatcher;
 use fleet::{Answer, Booked, Call, Refusal};
 use orders::Node;
 use roads::Roads;
-use van_slab::Itinerary;
 use stowage::Stowage;
+use van_slab::Itinerary;
 
 /// The answer to a call that has nothing to tell.
 fn done(res: Result<(), Refusal>) -> Answer

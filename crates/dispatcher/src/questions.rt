@@ -11,8 +11,8 @@ use crate::memory::{has_nodes, slabs_for};
 use fleet::{Refusal, Van, require};
 use orders::Node;
 use roads::Roads;
-use van_slab::{Itinerary, Visit, cheapest_order, order_at};
 use stowage::Stowage;
+use van_slab::{Itinerary, Visit, cheapest_order, order_at};
 
 /// The order of a van with nothing open.
 const IDLE: Itinerary = Itinerary {

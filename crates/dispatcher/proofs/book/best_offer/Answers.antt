@@ -1,9 +1,9 @@
 -- Van after van is asked.
-use Rattle.std.proofs.Common.{◌≡◌, ℕ, ◌+◌, ◌-◌, ◌<◌, get_or, None, Option, sym, ap, ◌∙◌, arith}
+use Rattle.std.proofs.Common.{◌≡◌, ℕ, ◌+◌, ◌-◌, get_or, None, Option, sym, ap, ◌∙◌, arith}
 use Rattle.growth.specs.Grounds.{rules_of}
 use Rattle.fleet.proofs.Soundness.{sound_of}
 use Rattle.outcomes.specs.Settled.{slab_at}
-use Rattle.outcomes.specs.Offers.{read_bid, best_of, better}
+use Rattle.outcomes.specs.Offers.{read_bid, better}
 use Rattle.outcomes.proofs.Moved.{is_numbered_van}
 use Rattle.outcomes.proofs.Booked.{best_more}
 use Rattle.dispatcher.proofs.book.best_offer.Goals as goal
@@ -19,6 +19,6 @@ loop-i-preserved g c =
     let rules = rules_of g.R.Roads g.S.Stowage c.args.ground in
     let asks : ℕ → Option ℕ = λ i. read_bid rules s c.args.booking (slab_at s c.args.nodes.now i) (get_or s.vans i None) in
     let at : (c.loop-i.i + 1) - 1 ≡ c.loop-i.i = omega arith in
-    c.better-of-best.ensures
+    c.better_of-best.ensures
     ∙ (λ j. better (c.loop-i.invariant j) (c.loop-i.i + 1) ((c.ask-price.ensures ∙ ap asks at) j))
     ∙ sym (best_more asks c.loop-i.i)

@@ -1,5 +1,5 @@
 -- Van after van that waits is pruned.
-use Rattle.std.proofs.Common.{◌≡◌, ◌+◌, ◌<◌, ◌≤◌, List, sym, ◌∙◌, subst, arith}
+use Rattle.std.proofs.Common.{◌≡◌, ◌+◌, List, sym, ◌∙◌, subst, arith}
 use Rattle.orders.specs.declared.Node.{Node}
 use Rattle.growth.specs.Grounds.{rules_of}
 use Rattle.fleet.proofs.Soundness.{sound_of, clock_sound}
@@ -7,7 +7,7 @@ use Rattle.outcomes.specs.Settled.{PrunedTo}
 use Rattle.outcomes.proofs.Moved.{is_numbered_van}
 use Rattle.outcomes.proofs.Clocked.{clock_keeps, pruned_none, pruned_past, pruned_more}
 use Rattle.dispatcher.proofs.clock.prune_waiting.Goals as goal
-use Rattle.dispatcher.proofs.clock.prune_waiting.Goals.{then-is-waiting, else-is-waiting}
+use Rattle.dispatcher.proofs.clock.prune_waiting.Goals.{then-is_waiting, else-is_waiting}
 
 pub loop-i-init : goal.loop-i-init
 loop-i-init g c =
@@ -37,13 +37,13 @@ loop-i-preserved g c =
     let s' = c.args.after.now in
     let rules = rules_of g.R.Roads g.S.Stowage c.args.ground in
     let so_far : List Node → Type 0 = PrunedTo rules s s' c.args.time c.args.nodes.now (c.loop-i.i + 1) in
-    elim c.if-is-waiting.branch [
-      | then-is-waiting w ↦ subst so_far (sym w.nodes-is)
+    elim c.if-is_waiting.branch [
+      | then-is_waiting w ↦ subst so_far (sym w.nodes-is)
           (pruned_more rules s s' c.requires.sound c.args.time c.requires.moved c.args.nodes.now c.requires.room c.loop-i.i c.loop-i-test.true c.loop-i.nodes c.loop-i.invariant
-          (sym c.is-waiting.ensures ∙ w.if-is-waiting.true) w.renew.new.nodes w.renew.auto.nodes w.renew.ensures)
-      | else-is-waiting w ↦ subst so_far (sym w.nodes-is)
+          (sym c.is_waiting.ensures ∙ w.if-is_waiting.true) w.renew.new.nodes w.renew.auto.nodes w.renew.ensures)
+      | else-is_waiting w ↦ subst so_far (sym w.nodes-is)
           (pruned_past rules s s' c.requires.sound c.args.time c.requires.moved c.args.nodes.now c.requires.room c.loop-i.i c.loop-i-test.true c.loop-i.nodes c.loop-i.invariant
-          (sym c.is-waiting.ensures ∙ w.if-is-waiting.false))
+          (sym c.is_waiting.ensures ∙ w.if-is_waiting.false))
     ]
 
 pub returns : goal.returns

@@ -1,5 +1,4 @@
 -- The open limit of a sound state is 1 to 4.
-use Rattle.std.proofs.Common.{◌≡◌, ℕ, arith}
 use Rattle.std.proofs.lemmas.Bool.{and_from, le-leb, both_ways}
 use Rattle.fleet.proofs.Soundness.{sound_of}
 use Rattle.dispatcher.proofs.memory.limit_of.Goals as goal

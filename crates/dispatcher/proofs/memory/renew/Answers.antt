@@ -8,7 +8,7 @@ use Rattle.dispatcher.proofs.memory.renew.Goals as goal
 pub regrow-requires : goal.regrow-requires
 regrow-requires g c =
     let all = ready c.args.state.now c.requires.sound c.args.van c.requires.within c.in-Some.w c.in-Some.is c.args.nodes.now c.requires.room
-    c.slabs-for-slabs.result c.position.result c.slabs-for-slabs.ensures c.position.ensures in
+    c.slabs_for-slabs.result c.position.result c.slabs_for-slabs.ensures c.position.ensures in
     record { sound = all.0; laid = all.1; roomy = all.2 }
 
 pub returns-in-Some : goal.returns-in-Some
@@ -17,4 +17,4 @@ returns-in-Some g c w e =
     let rules = rules_of g.R.Roads g.S.Stowage c.args.ground in
     regrown_at rules s (c.args.van - 1) c.args.fresh (slab_at s c.args.nodes.now (c.args.van - 1)) _ c.in-Some.w w c.args.nodes.now c.regrow.new.nodes c.in-Some.is e
     (regrown_from rules s c.args.fresh (λ l. l) c.args.nodes.now c.regrow.new.nodes (c.args.van - 1)
-    c.slabs-for-slabs.result c.position.result c.in-Some.w c.slabs-for-slabs.ensures c.position.ensures c.regrow.ensures.replaced c.regrow.ensures.exact)
+    c.slabs_for-slabs.result c.position.result c.in-Some.w c.slabs_for-slabs.ensures c.position.ensures c.regrow.ensures.replaced c.regrow.ensures.exact)

@@ -1,7 +1,6 @@
 -- Call after call is a step of the run.
-use Rattle.std.proofs.Common.{◌≡◌, ◌<◌, ◌≤◌, min, length, get_or, take, drop, sym, refl, ap, ◌∙◌, subst, arith}
+use Rattle.std.proofs.Common.{◌≡◌, get_or, take, drop, refl, ◌∙◌, subst, arith}
 use Rattle.orders.specs.Rules.{Lawful}
-use Rattle.growth.specs.declared.Ground.{Ground}
 use Rattle.fleet.specs.declared.call.Call.TheVariants.{Clock}
 use Rattle.fleet.specs.Terms.{terms_of}
 use Rattle.outcomes.specs.Runs.{Does, Machine, Run, stop}
@@ -10,7 +9,7 @@ use Rattle.outcomes.proofs.Running.{step_of, run_turn, places_stay}
 use Rattle.dispatcher.proofs.runner.run.Goals as goal
 
 pub loop-i-init : goal.loop-i-init
-loop-i-init g c = (c.in-ok-dispatcher.ensures.0, c.in-ok-dispatcher.ensures.1.settled, stop, refl)
+loop-i-init g c = (c.in_ok-dispatcher.ensures.0, c.in_ok-dispatcher.ensures.1.settled, stop, refl)
 
 pub loop-i-preserved : goal.loop-i-preserved
 loop-i-preserved g c =
@@ -33,7 +32,7 @@ loop-i-preserved g c =
 pub returns : goal.returns
 returns g c =
     let t = terms_of g.R.Roads g.S.Stowage c.args.ground in
-    let first : Machine = record { state = c.in-ok-dispatcher.dispatcher.state; nodes = c.new.new.nodes } in
+    let first : Machine = record { state = c.in_ok-dispatcher.dispatcher.state; nodes = c.new.new.nodes } in
     let last : Machine = record { state = c.loop-i.dispatcher.state; nodes = c.loop-i.nodes } in
     let inv = c.loop-i.invariant in
     let l = c.loop-i-test.false in
@@ -43,7 +42,7 @@ returns g c =
       record {
         first = first;
         last = last;
-        made = c.in-ok-dispatcher.ensures.1;
+        made = c.in_ok-dispatcher.ensures.1;
         run = subst (λ n. Run t first (take n c.args.calls.now) (take n c.loop-i.answers) last) e inv.2;
         left = refl;
         exact = exact_of t.rules c.loop-i.dispatcher.state c.loop-i.dispatcher.sound c.loop-i.nodes inv.1;

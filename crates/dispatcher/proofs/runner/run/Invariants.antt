@@ -1,4 +1,4 @@
-use Rattle.std.proofs.Common.{◌≡◌, ◌≤◌, length, take, drop}
+use Rattle.std.proofs.Common.{◌≡◌, take, drop}
 use Rattle.growth.specs.Grounds.{rules_of}
 use Rattle.fleet.specs.Terms.{terms_of}
 use Rattle.outcomes.specs.Settled.{Settled}

@@ -1,5 +1,5 @@
 -- A new dispatcher has a sound state, and its nodes are blank.
-use Rattle.std.proofs.Common.{◌≡◌, ◌+◌, ◌*◌, ◌≤◌, sym, refl, ap, ◌∙◌, arith}
+use Rattle.std.proofs.Common.{◌≡◌, ◌+◌, ◌*◌, sym, refl, ap, ◌∙◌, arith}
 use Rattle.std.proofs.lemmas.Bool.{leb-true}
 use Rattle.orders.specs.Slabs.{slab_size}
 use Rattle.growth.specs.Grounds.{rules_of}
@@ -9,16 +9,16 @@ use Rattle.outcomes.proofs.Acted.{passes}
 use Rattle.outcomes.proofs.Starts.{new_sound, new_made}
 use Rattle.dispatcher.proofs.dispatcher.Dispatcher.new.Goals as goal
 
-pub invariant-of-result : goal.invariant-of-result
-invariant-of-result g c =
-    (new_sound c.args.vans c.args.open-limit (sym c.is-van-count.ensures ∙ passes _ _ _ c.in-ok-require.ensures) c.in-Some.ensures.sound, tt)
+pub invariant_of-result : goal.invariant_of-result
+invariant_of-result g c =
+    record { sound = new_sound c.args.vans c.args.open_limit (sym c.is_van_count.ensures ∙ passes _ _ _ c.in_ok-require.ensures) c.in-Some.ensures.sound }
 
 pub returns : goal.returns
 returns g c =
-    let same = c.slab-size.ensures ∙ ap slab_size c.in-Some.ensures.same in
-    let count : (c.args.vans + 1) * c.slab-size.result ≡ needed (new_state c.args.vans c.args.open-limit) = ap (λ n. (c.args.vans + 1) * n) same in
-    let room = leb-true _ _ (passes _ _ _ c.in-ok-require-2.ensures) in (
+    let same = c.slab_size.ensures ∙ ap slab_size c.in-Some.ensures.same in
+    let count : (c.args.vans + 1) * c.slab_size.result ≡ needed (new_state c.args.vans c.args.open_limit) = ap (λ n. (c.args.vans + 1) * n) same in
+    let room = leb-true _ _ (passes _ _ _ c.in_ok-require-2.ensures) in (
       refl,
-      new_made c.args.vans c.args.open-limit (sym c.is-van-count.ensures ∙ passes _ _ _ c.in-ok-require.ensures) c.in-Some.ensures.sound
+      new_made c.args.vans c.args.open_limit (sym c.is_van_count.ensures ∙ passes _ _ _ c.in_ok-require.ensures) c.in-Some.ensures.sound
           (rules_of g.R.Roads g.S.Stowage c.args.ground) c.args.nodes.now (omega arith) _ c.clear.new.nodes count c.clear.ensures,
     )

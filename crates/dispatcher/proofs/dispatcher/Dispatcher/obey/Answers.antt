@@ -1,5 +1,5 @@
 -- Each call does what its own contract says.
-use Rattle.std.proofs.Common.{◌≡◌, sym, refl, ap, ◌∙◌, subst}
+use Rattle.std.proofs.Common.{sym, refl, ap, ◌∙◌, subst}
 use Rattle.fleet.specs.declared.call.Call.TheVariants as call
 use Rattle.fleet.specs.declared.call.Answer.TheVariants as answer
 use Rattle.fleet.specs.Terms.{terms_of}
