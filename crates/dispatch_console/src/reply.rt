@@ -6,9 +6,9 @@ ghost use Rattle.dispatch_console.specs.Texts.{kind_text, stop_text, more_text, 
 
 use fleet::{Answer, Booked, Refusal};
 use roads::RoadFault;
-use van_slab::{Itinerary, Visit};
 use std::fmt;
 use stowage::Promise;
+use van_slab::{Itinerary, Visit};
 
 /// What a line is answered.
 #[derive(Clone, Copy)]

@@ -11,9 +11,9 @@ mod lines;
 /// A running dispatcher with its node memory, and the calls that it was given, counted.
 #[derive(Drop)]
 pub struct Session<'a, R, S> {
-    ground: Ground<'a, R, S>,
+    lent: Ground<'a, R, S>,
     dispatcher: Dispatcher<'a, R, S>,
     nodes: Vec<Node>,
     tally: Tally,
-    ghost one: { dispatcher.ground ≡ ground },
+    ghost one: { dispatcher.ground ≡ lent },
 }

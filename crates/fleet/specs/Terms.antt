@@ -16,7 +16,7 @@ pub record Terms : Type 1 where
 
 -- the terms of a ground, as its roads and its rule have them
 abbrev pub terms_of : {R S Hold : Type 0} → OfRoads R → OfStowage S Hold → Ground R S → Terms
-terms_of roads rule ground = record { rules = rules_of roads rule ground; promise = rule.promise ground.rule.now }
+terms_of roads rule lent = record { rules = rules_of roads rule lent; promise = rule.promise lent.rule.now }
 
 -- terms whose roads and rule keep their laws
 pub record LawfulTerms (t : Terms) : Type 0 where

@@ -6,4 +6,4 @@ use Rattle.growth.specs.declared.Ground.{Ground}
 
 -- places, trips, the empty hold and stowing, as the ground's roads and rule have them
 abbrev pub rules_of : {R S Hold : Type 0} → OfRoads R → OfStowage S Hold → Ground R S → Rules
-rules_of roads rule ground = rules roads rule ground.roads.now ground.rule.now
+rules_of roads rule lent = rules roads rule lent.roads.now lent.rule.now

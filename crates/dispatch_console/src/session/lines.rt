@@ -47,13 +47,13 @@ impl<'a, R: Roads, S: Stowage> Session<'a, R, S> {
         open_limit: u32,
     ) -> Result<Result<Session<'a, R, S>, Reply>, AllocError>
         ensures { IfOk result (λ begun. MatchResult begun
-            (λ s. (s.ground ≡ ground.entry) × Made (rules_of R.Roads S.Stowage ground.entry) vans open_limit (replicate (nodes_given nodes vans open_limit) blank) (moment s).state (moment s).memory × ((moment s).tally ≡ no_calls))
+            (λ s. (s.lent ≡ ground.entry) × Made (rules_of R.Roads S.Stowage ground.entry) vans open_limit (replicate (nodes_given nodes vans open_limit) blank) (moment s).state (moment s).memory × ((moment s).tally ≡ no_calls))
             (λ reply. (f : Refusal) × (make_call vans open_limit (nodes_given nodes vans open_limit) ≡ Err f) × (reply ≡ refusal_reply f))) }
     {
         let mut memory = blank_nodes(heap, node_count(nodes, vans, open_limit))?;
         match Dispatcher::new(ground, vans, open_limit, &mut memory) {
             Ok(dispatcher) => Ok(Ok(Session {
-                ground,
+                lent: ground,
                 dispatcher,
                 nodes: memory,
                 tally: Tally::new(),
@@ -64,15 +64,15 @@ impl<'a, R: Roads, S: Stowage> Session<'a, R, S> {
 
     /// Does what a line asks for, and answers it.
     pub fn obey(&mut self, command: Command) -> Reply
-        ensures ground { self.new.ground ≡ self.old.ground }
-        ensures attends { Attends (terms_of R.Roads S.Stowage self.old.ground) (moment self.old) (meaning command) (moment self.new) result }
+        ensures lent { self.new.lent ≡ self.old.lent }
+        ensures attends { Attends (terms_of R.Roads S.Stowage self.old.lent) (moment self.old) (meaning command) (moment self.new) result }
     {
         match command {
             Command::Nothing => Reply::Nothing,
             Command::Help => Reply::Help,
             Command::Quote { from, to, figures } => quote(
-                self.ground.roads,
-                self.ground.rule,
+                self.lent.roads,
+                self.lent.rule,
                 from,
                 to,
                 figures,
@@ -84,8 +84,8 @@ impl<'a, R: Roads, S: Stowage> Session<'a, R, S> {
 
     /// Gives a call to the dispatcher, and counts it.
     fn call(&mut self, call: Call) -> Reply
-        ensures ground { self.new.ground ≡ self.old.ground }
-        ensures called { Called (terms_of R.Roads S.Stowage self.old.ground) call (moment self.old) (moment self.new) result }
+        ensures lent { self.new.lent ≡ self.old.lent }
+        ensures called { Called (terms_of R.Roads S.Stowage self.old.lent) call (moment self.old) (moment self.new) result }
     {
         let answer = self.dispatcher.obey(&mut self.nodes, call);
         self.tally.count(answer);

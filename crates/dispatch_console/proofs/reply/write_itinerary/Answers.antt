@@ -7,8 +7,8 @@ use Rattle.van_slab.specs.declared.Visit.{Visit}
 use Rattle.dispatch_console.specs.Texts.{stops_text}
 use Rattle.dispatch_console.proofs.reply.write_itinerary.Goals as goal
 
-used-stops : (n u : ℕ) (vs : List Visit) → length vs ≡ 8 → u ≡ min n 8 → take (u - 0) vs ≡ take n vs
-used-stops n u vs eight e =
+used_stops : (n u : ℕ) (vs : List Visit) → length vs ≡ 8 → u ≡ min n 8 → take (u - 0) vs ≡ take n vs
+used_stops n u vs eight e =
     elim (cases_lt n 8) [
       | inl h ↦ ap (λ m. take m vs) (omega arith)
       | inr h ↦ take_all (u - 0) vs (omega arith) ∙ sym (take_all n vs (omega arith))
@@ -17,8 +17,8 @@ used-stops n u vs eight e =
 pub returns : goal.returns
 returns g c = λ plain ok.
     let i = c.args.itinerary in
-    let first = c.in-ok-write.ensures.shows plain refl in
+    let first = c.in_ok-write.ensures.writes plain refl in
     let eight : length i.visits ≡ 8 = search rules in
     has_written_of_eq _ _ _ _ _
     (ap (λ vs. (codes "cost " ++ (decimal i.cost ++ (codes " stops " ++ decimal i.stops))) ++ stops_text vs) (used_stops i.stops _ i.visits eight c.min-used.ensures))
-    (has_written_append _ _ _ _ _ _ first (c.write-stops.ensures first.plain ok))
+    (has_written_append _ _ _ _ _ _ first (c.write_stops.ensures first.plain ok))

@@ -16,7 +16,7 @@ loop-visit-preserved g c = λ plain.
     let text : Visit → List ℕ = stop_text (codes ", ") in
     has_written_of_eq _ _ _ _ _
     (flat_map_more text [] _ _ ∙ ap (flat_map text) (sym (take_more _ _ _ c.loop-visit-test.true)))
-    (has_written_append _ _ _ _ _ _ before (c.in-ok-write-stop.ensures before.plain refl))
+    (has_written_append _ _ _ _ _ _ before (c.in_ok-write_stop.ensures before.plain refl))
 
 pub returns : goal.returns
 returns g c = λ plain ok.

@@ -10,16 +10,16 @@ use Rattle.dispatch_console.proofs.session.Session.begin.Goals as goal
 
 pub returns-in-Ok : goal.returns-in-Ok
 returns-in-Ok g c =
-    let v = c.in-ok-memory.memory in
+    let v = c.in_ok-memory.memory in
     let nodes = c.new.new.nodes in
     let len : length nodes ≡ v.len = search rules in
-    let given = c.deref-mut.ensures.value ∙ c.in-ok-memory.ensures ∙ ap (λ count. replicate count blank) c.node-count.ensures in
+    let given = c.deref_mut.ensures.value ∙ c.in_ok-memory.ensures ∙ ap (λ count. replicate count blank) c.node_count.ensures in
     let over : List Node → List Node → Type 0 =
-    λ before after. Made (rules_of g.R.Roads g.S.Stowage c.args.ground) c.args.vans c.args.open-limit before c.in-Ok.dispatcher.state after in
+    λ before after. Made (rules_of g.R.Roads g.S.Stowage c.args.ground) c.args.vans c.args.open_limit before c.in-Ok.dispatcher.state after in
     (refl, subst (over _) (sym (with_items_is v nodes len)) (subst (λ before. over before nodes) given c.in-Ok.ensures.1), c.new-in-Ok.ensures)
 
 pub returns : goal.returns
 returns g c =
-    let given = c.deref-mut.ensures.value ∙ c.in-ok-memory.ensures in
-    let count = ap length given ∙ length-replicate _ blank ∙ c.node-count.ensures in
-    (c.in-Err.refusal, ap (make_call c.args.vans c.args.open-limit) (sym count) ∙ c.in-Err.ensures.0, c.of-refusal.ensures)
+    let given = c.deref_mut.ensures.value ∙ c.in_ok-memory.ensures in
+    let count = ap length given ∙ length-replicate _ blank ∙ c.node_count.ensures in
+    (c.in-Err.refusal, ap (make_call c.args.vans c.args.open_limit) (sym count) ∙ c.in-Err.ensures.0, c.of_refusal.ensures)

@@ -15,12 +15,12 @@ returns g c =
     let over : Ground g.row.R.Denot g.row.S.Denot → List Node → List Node → Type 0 =
     λ ground before after. Does (terms_of g.R.Roads g.S.Stowage ground) c.args.call s.dispatcher.state before done.result done.new.self.state after in
     record {
-      ground = refl;
+      lent = refl;
       called = record {
         answer = done.result;
-        does = subst (over s.ground (vec_items s.nodes)) (sym (with_items_is s.nodes done.new.nodes len))
-            (subst (λ before. over s.ground before done.new.nodes) c.deref-mut.ensures.value
-            (subst (λ ground. over ground c.deref-mut.result.now done.new.nodes) s.one done.ensures.does));
+        does = subst (over s.lent (vec_items s.nodes)) (sym (with_items_is s.nodes done.new.nodes len))
+            (subst (λ before. over s.lent before done.new.nodes) c.deref_mut.ensures.value
+            (subst (λ ground. over ground c.deref_mut.result.now done.new.nodes) s.one done.ensures.does));
         tally = search rules;
         told = search rules;
       };
