@@ -1,4 +1,6 @@
 //! The clerk's console: what a line of the day asks for, and what it is answered.
+#![tactic(auto)]
+
 mod command;
 mod desk;
 mod reply;

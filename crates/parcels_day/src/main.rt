@@ -1,4 +1,6 @@
 //! A day of parcels, read from standard input.
+#![tactic(auto)]
+
 use std::io;
 
 fn main(rt: HostRuntime) -> io::Result<()> {

@@ -1,4 +1,6 @@
 //! The day program: reads lines, prints answers.
+#![tactic(auto)]
+
 use dispatch_console::{Command, Desk, Reply, Rule, Session, Step, Tally, read_command};
 use growth::Ground;
 use roads::AnyRoads;

@@ -1,5 +1,5 @@
 -- What is written of the stops so far, and one stop more.
-use Rattle.std.proofs.Common.{◌≡◌, ℕ, List, [], codes, sym, refl, ap, ◌∙◌}
+use Rattle.std.proofs.Common.{ℕ, List, [], codes, sym, refl, ap, ◌∙◌}
 use Rattle.std.specs.List.{flat_map}
 use Rattle.std.proofs.Output.{writes_in_calls_nil, has_written_append, has_written_of_eq}
 use Rattle.std.proofs.lemmas.List.{flat_map_more, take_more, take_all}

@@ -1,4 +1,4 @@
-use Rattle.std.proofs.Common.{ℕ, take}
+use Rattle.std.proofs.Common.{take}
 use Rattle.std.specs.Fmt.{IsPlainFormatter, HasWritten}
 use Rattle.dispatch_console.specs.Texts.{more_text}
 use Rattle.dispatch_console.proofs.reply.write_more.Given as goal
