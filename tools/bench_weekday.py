@@ -1,7 +1,8 @@
 #!/usr/bin/env python3
 """Measures the day program on a weekday: bookings per second, and what a booking costs in positions and stores.
 
-    rt check day && python3 tools/bench_weekday.py target/bin/day crates/day/stdin
+    (cd crates/weekday && rt run < stdin > /dev/null)
+    python3 tools/bench_weekday.py crates/weekday/out/weekday crates/weekday/stdin
 
 Seconds are the median of some runs of the whole day, all its other calls included. Positions are counted by valgrind, as calls of
 the functions that survey a position and that try a stop; stores follow from the number of trees that were written: a tree of n

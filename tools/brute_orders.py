@@ -1,7 +1,7 @@
 #!/usr/bin/env python3
 """Lists a van's valid orders by trying every sequence of its stops, and compares them with what trial prints.
 
-    rt check trial && target/bin/trial | python3 tools/brute_orders.py
+    (cd crates/trial && rt run) | python3 tools/brute_orders.py
 """
 import itertools
 import sys

@@ -1,7 +1,8 @@
 #!/usr/bin/env python3
 """Runs the day program and its model on days made at random, and says where they differ.
 
-    rt check day && python3 tools/compare_days.py target/bin/day [days [first]]
+    (cd crates/weekday && rt run < stdin > /dev/null)
+    python3 tools/compare_days.py crates/weekday/out/weekday [days [first]]
 """
 import random
 import subprocess

@@ -2,9 +2,9 @@
 """Writes a weekday as input for the day program: bookings come in, vans drive along their plans, some are late, and
 calls of every kind are refused. The model of the program tells the plans. A kind and a seed give the same day each time.
 
-    python3 tools/make_weekday.py passengers 7 tools/quotes.txt > crates/day/stdin
+    python3 tools/make_weekday.py passengers 7 tools/quotes.txt > crates/weekday/stdin
     python3 tools/make_weekday.py parcels 7 > crates/parcels_day/stdin
-    python3 tools/day_model.py < crates/day/stdin > crates/day/stdout
+    python3 tools/day_model.py < crates/weekday/stdin > crates/weekday/stdout
 
 Lines of a third argument's file stand before the day.
 """
