@@ -5,15 +5,15 @@ use Rattle.orders.specs.declared.Booking.{Booking}
 use Rattle.orders.specs.Bookings.{In, number_of, Above, Ascending}
 use Rattle.orders.proofs.Basics.{in_left, in_right, in_append}
 use Rattle.fleet.specs.declared.state.Van.{Van}
-use Rattle.fleet.specs.SoundTest.{numbers_on, open_numbers, is_lacks, is_once}
+use Rattle.fleet.specs.SoundTest.{numbers_on, open_numbers, lacks, is_once}
 
 -- what the test of a missing number tells, and the test from it
-lacking : (n : ℕ) (ns : List ℕ) → is_lacks n ns ≡ true → In n ns → ⊥
+lacking : (n : ℕ) (ns : List ℕ) → lacks n ns ≡ true → In n ns → ⊥
 lacking n [] h i = i
 lacking n (m ∷ ms) h (inl e) = both_ways _ (not-true _ (and_parts (not (eqb n m)) _ h).0) (eq-eqb n m e)
 lacking n (m ∷ ms) h (inr i) = lacking n ms (and_parts (not (eqb n m)) _ h).1 i
 
-lacks_test : (n : ℕ) (ns : List ℕ) → (In n ns → ⊥) → is_lacks n ns ≡ true
+lacks_test : (n : ℕ) (ns : List ℕ) → (In n ns → ⊥) → lacks n ns ≡ true
 lacks_test n [] h = refl
 lacks_test n (m ∷ ms) h = and_from _ _ (not_from_false _ (ne_eqb n m (λ e. h (inl e)))) (lacks_test n ms (λ i. h (inr i)))
 
@@ -21,7 +21,7 @@ lacks_test n (m ∷ ms) h = and_from _ _ (not_from_false _ (ne_eqb n m (λ e. h 
 parted : (ms ns : List ℕ) → is_once (ms ++ ns) ≡ true → (is_once ns ≡ true) × ((n : ℕ) → In n ms → In n ns → ⊥)
 parted [] ns h = (h, λ n i j. i)
 parted (m ∷ ms) ns h =
-    let p = and_parts (is_lacks m (ms ++ ns)) _ h in
+    let p = and_parts (lacks m (ms ++ ns)) _ h in
     let q = parted ms ns p.1 in
     (q.0, λ n i j. ⊎_elim (λ (e : n ≡ m). lacking m (ms ++ ns) p.0 (in_right m ms ns (subst (λ x. In x ns) e j))) (λ (k : In n ms). q.1 n k j) i)
 
@@ -29,7 +29,7 @@ parted (m ∷ ms) ns h =
 joined_once : (ms ns : List ℕ) → is_once ms ≡ true → is_once ns ≡ true → ((n : ℕ) → In n ms → In n ns → ⊥) → is_once (ms ++ ns) ≡ true
 joined_once [] ns h k apart = k
 joined_once (m ∷ ms) ns h k apart =
-    let p = and_parts (is_lacks m ms) _ h in
+    let p = and_parts (lacks m ms) _ h in
     and_from _ _
     (lacks_test m (ms ++ ns) (λ i. ⊎_elim (lacking m ms p.0) (apart m (inl refl)) (in_append m ms ns i)))
     (joined_once ms ns p.1 k (λ n i. apart n (inr i)))
@@ -39,7 +39,7 @@ pub ascending_once : (bs : List Booking) → Ascending bs → is_once (map numbe
 ascending_once [] a = refl
 ascending_once (b ∷ bs) a = and_from _ _ (above_lacks (number_of b) bs a.0) (ascending_once bs a.1)
   where
-    above_lacks : (n : ℕ) (cs : List Booking) → Above n cs → is_lacks n (map number_of cs) ≡ true
+    above_lacks : (n : ℕ) (cs : List Booking) → Above n cs → lacks n (map number_of cs) ≡ true
     above_lacks n [] h = refl
     above_lacks n (c ∷ cs) h = and_from _ _ (not_from_false _ (ne_eqb n (number_of c) (let l = h.0 in λ e. omega arith))) (above_lacks n cs h.1)
 

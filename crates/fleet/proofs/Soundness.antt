@@ -18,7 +18,7 @@ use Rattle.fleet.specs.declared.state.Van.{Van}
 use Rattle.fleet.specs.Slots.{slots, numbered}
 use Rattle.fleet.specs.States
 use Rattle.fleet.specs.Sound as plain
-use Rattle.fleet.specs.SoundTest.{is_sound_booking, is_sound_bookings, is_packed, is_above, is_ascending, is_sound_slots, is_sound_van, is_sound_place, is_all_sound, is_all_off, numbers_on, is_once, is_sound}
+use Rattle.fleet.specs.SoundTest.{is_sound_booking, is_sound_bookings, is_packed, is_above, is_ascending, is_sound_slots, is_sound_van, is_sound_place, all_sound, all_off, numbers_on, is_once, is_sound}
 use Rattle.fleet.proofs.Packed.{compact_slots}
 use Rattle.fleet.proofs.Vans.{van_waited}
 use Rattle.fleet.proofs.Accepted as accepted
@@ -51,7 +51,7 @@ pub record Sound (s : State) : Type 0 where
   pub week : s.clock ≤ 604800
   pub long : length s.vans ≡ 32
   pub each : (i : ℕ) → is_sound_place s.clock s.open_limit (get_or s.vans i None) ≡ true
-  pub off : is_all_off (drop s.size s.vans) ≡ true
+  pub off : all_off (drop s.size s.vans) ≡ true
   pub once : Once s.vans
 
 above_of : (n : ℕ) (bs : List Booking) → is_above n bs ≡ true → Above n bs
@@ -162,12 +162,12 @@ van_test clock limit w h =
     and_from _ _ (lt-ltb _ _ h.place) (and_from _ _ (le-leb _ _ h.time) (and_from _ _ (le-leb _ _ h.week) (and_from _ _ (le-leb _ _ h.driven)
     (and_from _ _ (bookings_test w.driven (States.open_bookings w) h.bookings) (slots_test limit w.bookings h.its)))))
 
-all_at : (clock limit : ℕ) (os : List (Option Van)) → is_all_sound clock limit os ≡ true → (i : ℕ) → is_sound_place clock limit (get_or os i None) ≡ true
+all_at : (clock limit : ℕ) (os : List (Option Van)) → all_sound clock limit os ≡ true → (i : ℕ) → is_sound_place clock limit (get_or os i None) ≡ true
 all_at clock limit [] h i = refl
 all_at clock limit (o ∷ os) h zero = (and_parts (is_sound_place clock limit o) _ h).0
 all_at clock limit (o ∷ os) h (suc i) = all_at clock limit os (and_parts (is_sound_place clock limit o) _ h).1 i
 
-all_from : (clock limit : ℕ) (os : List (Option Van)) → ((i : ℕ) → is_sound_place clock limit (get_or os i None) ≡ true) → is_all_sound clock limit os ≡ true
+all_from : (clock limit : ℕ) (os : List (Option Van)) → ((i : ℕ) → is_sound_place clock limit (get_or os i None) ≡ true) → all_sound clock limit os ≡ true
 all_from clock limit [] h = refl
 all_from clock limit (o ∷ os) h = and_from _ _ (h 0) (all_from clock limit os (λ i. h (suc i)))
 
@@ -180,8 +180,8 @@ sound_of s h =
     let d = and_parts (leb s.open_limit 4) _ c.1 in
     let e = and_parts (leb s.clock week) _ d.1 in
     let f = and_parts (eqb (length s.vans) 32) _ e.1 in
-    let g = and_parts (is_all_sound s.clock s.open_limit s.vans) _ f.1 in
-    let i = and_parts (is_all_off (drop s.size s.vans)) _ g.1 in
+    let g = and_parts (all_sound s.clock s.open_limit s.vans) _ f.1 in
+    let i = and_parts (all_off (drop s.size s.vans)) _ g.1 in
     record {
       one = leb-true _ _ a.0;
       most = leb-true _ _ b.0;
@@ -256,7 +256,7 @@ set_sound s h i o l t own = record {
       (λ (e : j ≡ i). subst (λ x. is_sound_place s.clock s.open_limit x ≡ true) (sym (now_there j e)) t)
       (λ (n : j ≡ i → ⊥). subst (λ x. is_sound_place s.clock s.open_limit x ≡ true) (sym (get_or-set_other s.vans i j o None n)) (h.each j))
       (cases_eq j i);
-  off = ap is_all_off (drop-set-lt s.size s.vans i o l) ∙ h.off;
+  off = ap all_off (drop-set-lt s.size s.vans i o l) ∙ h.off;
   once = λ n j k p q. both n j k (before n j p) (before n k q);
 }
   where
@@ -374,7 +374,7 @@ module _ (s s' : State) (h : is_sound s ≡ true) where
         week = a.week;
         long = length-map s.vans (States.waited time) ∙ k.long;
         each = λ i. subst (λ o. is_sound_place time s.open_limit o ≡ true) (sym (van_waited time s.vans i)) (waits a.week (get_or s.vans i None) (k.each i));
-        off = ap is_all_off (drop-map (States.waited time) s.size s.vans) ∙ still_off (drop s.size s.vans) k.off;
+        off = ap all_off (drop-map (States.waited time) s.size s.vans) ∙ still_off (drop s.size s.vans) k.off;
         once = λ n i j p q. k.once n i j (still_open n i p) (still_open n j q);
       }))
     where
@@ -389,7 +389,7 @@ module _ (s s' : State) (h : is_sound s ≡ true) where
           (λ e. van_test time s.open_limit (record { place = w.place; second = w.second; driven = w.driven; bookings = w.bookings })
           (record { place = p.place; time = ltb-false w.second time e; week = p.week; driven = driven; bookings = p.bookings; its = p.its }))
 
-      still_off : (os : List (Option Van)) → is_all_off os ≡ true → is_all_off (map (States.waited time) os) ≡ true
+      still_off : (os : List (Option Van)) → all_off os ≡ true → all_off (map (States.waited time) os) ≡ true
       still_off [] h = refl
       still_off (None ∷ os) h = still_off os h
       still_off (Some w ∷ os) h = h
@@ -406,13 +406,13 @@ module _ (s s' : State) (h : is_sound s ≡ true) where
 pub within_size : (s : State) → Sound s → (i : ℕ) (w : Van) → get_or s.vans i None ≡ Some w → i < s.size
 within_size s h i w e = ⊎_elim (λ (l : i < s.size). l) (λ (l : s.size ≤ i). absurd (accepted.none_some (sym (nowhere s.vans s.size i l h.off) ∙ e))) (cases_lt i s.size)
   where
-    all_none : (os : List (Option Van)) (j : ℕ) → is_all_off os ≡ true → get_or os j None ≡ None
+    all_none : (os : List (Option Van)) (j : ℕ) → all_off os ≡ true → get_or os j None ≡ None
     all_none [] j t = refl
     all_none (None ∷ os) zero t = refl
     all_none (None ∷ os) (suc j) t = all_none os j t
     all_none (Some x ∷ os) j t = absurd (let z : ◌≡◌ {A = ℕ} 0 1 = cc in omega arith)
 
-    nowhere : (os : List (Option Van)) (n j : ℕ) → n ≤ j → is_all_off (drop n os) ≡ true → get_or os j None ≡ None
+    nowhere : (os : List (Option Van)) (n j : ℕ) → n ≤ j → all_off (drop n os) ≡ true → get_or os j None ≡ None
     nowhere [] n j l t = refl
     nowhere (o ∷ os) zero j l t = all_none (o ∷ os) j t
     nowhere (o ∷ os) (suc n) zero l t = absurd (omega arith)

@@ -75,15 +75,15 @@ abbrev pub is_sound_place : ℕ → ℕ → Option Van → Bool
 is_sound_place clock limit None = true
 is_sound_place clock limit (Some w) = is_sound_van clock limit w
 
-abbrev pub is_all_sound : ℕ → ℕ → List (Option Van) → Bool
-is_all_sound clock limit [] = true
-is_all_sound clock limit (o ∷ os) = is_sound_place clock limit o && is_all_sound clock limit os
+abbrev pub all_sound : ℕ → ℕ → List (Option Van) → Bool
+all_sound clock limit [] = true
+all_sound clock limit (o ∷ os) = is_sound_place clock limit o && all_sound clock limit os
 
 -- every place is unused
-abbrev pub is_all_off : List (Option Van) → Bool
-is_all_off [] = true
-is_all_off (None ∷ os) = is_all_off os
-is_all_off (Some w ∷ os) = false
+abbrev pub all_off : List (Option Van) → Bool
+all_off [] = true
+all_off (None ∷ os) = all_off os
+all_off (Some w ∷ os) = false
 
 -- the numbers that are open on a van, none off duty
 abbrev pub numbers_on : Option Van → List ℕ
@@ -96,19 +96,19 @@ open_numbers [] = []
 open_numbers (o ∷ os) = numbers_on o ++ open_numbers os
 
 -- n is none of the numbers
-abbrev pub is_lacks : ℕ → List ℕ → Bool
-is_lacks n [] = true
-is_lacks n (m ∷ ms) = not (n == m) && is_lacks n ms
+abbrev pub lacks : ℕ → List ℕ → Bool
+lacks n [] = true
+lacks n (m ∷ ms) = not (n == m) && lacks n ms
 
 -- no number stands twice
 abbrev pub is_once : List ℕ → Bool
 is_once [] = true
-is_once (n ∷ ns) = is_lacks n ns && is_once ns
+is_once (n ∷ ns) = lacks n ns && is_once ns
 
 -- 1 to 32 vans, an open limit of 1 to 4, a clock within the week, each van sound, no van beyond their number, and no booking's
 -- number open twice
 unfoldable pub is_sound : State → Bool
 is_sound s =
     nat_le 1 s.size && (nat_le s.size 32 && (nat_le 1 s.open_limit && (nat_le s.open_limit 4 && (nat_le s.clock week
-    && (length s.vans == 32 && (is_all_sound s.clock s.open_limit s.vans && (is_all_off (drop s.size s.vans)
+    && (length s.vans == 32 && (all_sound s.clock s.open_limit s.vans && (all_off (drop s.size s.vans)
     && is_once (open_numbers s.vans))))))))

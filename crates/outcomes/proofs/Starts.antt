@@ -12,7 +12,7 @@ use Rattle.growth.specs.Memory.{pasted}
 use Rattle.growth.proofs.Places.{earlier}
 use Rattle.fleet.specs.declared.refusal.Refusal.TheVariants.{VanCount, OpenLimit, TooFewNodes}
 use Rattle.fleet.specs.declared.state.Van.{Van}
-use Rattle.fleet.specs.SoundTest.{is_sound_place, is_all_off, numbers_on, is_sound}
+use Rattle.fleet.specs.SoundTest.{is_sound_place, all_off, numbers_on, is_sound}
 use Rattle.fleet.specs.States.{check}
 use Rattle.fleet.specs.Housed.{Housed}
 use Rattle.fleet.proofs.Accepted.{none_some}
@@ -29,7 +29,7 @@ nobody_at zero i = refl
 nobody_at (suc k) zero = refl
 nobody_at (suc k) (suc i) = nobody_at k i
 
-nobody_off : (k : ℕ) → is_all_off (nobody k) ≡ true
+nobody_off : (k : ℕ) → all_off (nobody k) ≡ true
 nobody_off zero = refl
 nobody_off (suc k) = nobody_off k
 
@@ -61,7 +61,7 @@ module _ (vans limit : ℕ) (some : (leb 1 vans && leb vans 32) ≡ true) (is : 
         week = omega arith;
         long = length-replicate 32 (NoneVan);
         each = λ i. ap (is_sound_place 0 limit) (nobody_at 32 i);
-        off = ap is_all_off (drop-replicate vans 32 NoneVan) ∙ nobody_off (32 - vans);
+        off = ap all_off (drop-replicate vans 32 NoneVan) ∙ nobody_off (32 - vans);
         once = λ n i j p q. absurd (subst (λ o. In n (numbers_on o)) (nobody_at 32 i) p);
       })
     where
