@@ -3,9 +3,9 @@
 
 mod booking;
 mod call;
-mod calls;
 mod quote;
 mod refusal;
+mod serving;
 mod slots;
 mod state;
 

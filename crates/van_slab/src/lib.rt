@@ -6,7 +6,7 @@ ghost use Rattle.orders.specs.Rules.{rules};
 ghost use Rattle.van_slab.specs.Laws.{ExactReading, BoundedReading};
 ghost use Rattle.std.specs.Cmp.{partial_equiv_from_equiv};
 ghost use Rattle.van_slab.specs.Equality.{same_itinerary};
-ghost use Rattle.std.proofs.lemmas.Cmp.{nat_eq_equiv, on_equiv, and_equiv, lists_equiv};
+ghost use Rattle.van_slab.specs.EqualityLemmas.{same_itinerary_laws};
 
 use roads::Roads;
 use stowage::Stowage;
@@ -38,7 +38,7 @@ pub struct Itinerary {
 impl PartialEq for Itinerary {
     ghost eq = { same_itinerary };
 
-    ghost laws = { partial_equiv_from_equiv (and_equiv (on_equiv (λ r. r.cost) nat_eq_equiv) (and_equiv (on_equiv (λ r. r.stops) nat_eq_equiv) (on_equiv (λ r. r.visits) (lists_equiv (and_equiv (on_equiv (λ v. v.booking) nat_eq_equiv) (and_equiv (on_equiv (λ v. v.kind) nat_eq_equiv) (on_equiv (λ v. v.second) nat_eq_equiv))))))) };
+    ghost laws = { partial_equiv_from_equiv same_itinerary_laws };
 
     fn eq(&self, other: &Itinerary) -> bool
         ensures test { result ≡ same_itinerary self.now other.now }
@@ -52,7 +52,7 @@ impl PartialEq for Itinerary {
 }
 
 impl Eq for Itinerary {
-    ghost laws = { and_equiv (on_equiv (λ r. r.cost) nat_eq_equiv) (and_equiv (on_equiv (λ r. r.stops) nat_eq_equiv) (on_equiv (λ r. r.visits) (lists_equiv (and_equiv (on_equiv (λ v. v.booking) nat_eq_equiv) (and_equiv (on_equiv (λ v. v.kind) nat_eq_equiv) (on_equiv (λ v. v.second) nat_eq_equiv)))))) };
+    ghost laws = { same_itinerary_laws };
 }
 
 /// A slab that holds the tree of a van with one to four open bookings lists just the van's valid orders, and each as it is
