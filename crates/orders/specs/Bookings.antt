@@ -4,6 +4,8 @@ use Rattle.stowage.specs.declared.Load.{Load}
 use Rattle.orders.specs.declared.Stop.{Stop}
 use Rattle.orders.specs.declared.Booking.{Booking}
 use Rattle.orders.specs.declared.Booking.TheVariants.{Waiting, Aboard}
+use Rattle.orders.specs.declared.StopKind.{StopKind}
+use Rattle.orders.specs.declared.StopKind.TheVariants.{Pickup, DropOff}
 
 -- x stands in the list
 abbrev pub In : {X : Type 0} → X → List X → Type 0
@@ -20,10 +22,19 @@ abbrev pub next_stop : Booking → Stop
 next_stop (Waiting pickup j) = pickup
 next_stop (Aboard since j) = j.dropoff
 
+-- the kind of a booking's next stop: it waits for its pickup, or is aboard until its drop-off
+abbrev pub kind_of : Booking → StopKind
+kind_of (Waiting pickup j) = Pickup
+kind_of (Aboard since j) = DropOff
+
+-- the number by which node memory tells a kind
+abbrev pub kind_number : StopKind → ℕ
+kind_number Pickup = 0
+kind_number DropOff = 1
+
 -- 0 where the next stop is a pickup, 1 where it is a drop-off
 abbrev pub stop_kind : Booking → ℕ
-stop_kind (Waiting pickup j) = 0
-stop_kind (Aboard since j) = 1
+stop_kind b = kind_number (kind_of b)
 
 -- what stays open of a booking whose next stop is served when the van has driven so many seconds
 abbrev pub remaining : ℕ → Booking → List Booking

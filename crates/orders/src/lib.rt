@@ -3,7 +3,7 @@
 #![tactic(auto)]
 
 ghost use Rattle.std.specs.Prelude.{◌≡◌};
-ghost use Rattle.orders.specs.Bookings.{number_of};
+ghost use Rattle.orders.specs.Bookings.{number_of, next_stop, kind_of, kind_number};
 ghost use Rattle.orders.specs.Rules.{rules};
 ghost use Rattle.orders.specs.Laws.{ExactOrders, ExactNodes, ExactSeconds, Thins, Moves, Guides, FitsSlab, FillsSlab, Numbers, Determined, OneWinner};
 
@@ -15,6 +15,25 @@ use stowage::{Load, Stowage, Window};
 pub struct Stop {
     pub place: u32,
     pub window: Window,
+}
+
+/// Whether a booking is picked up at a stop, or dropped off.
+#[derive(Clone, Copy, PartialEq, Eq, Debug)]
+pub enum StopKind {
+    Pickup,
+    DropOff,
+}
+
+impl StopKind {
+    /// The number by which node memory tells the kind: 0 for a pickup, 1 for a drop-off.
+    pub fn number(self) -> u32
+        ensures { result ≡ kind_number self }
+    {
+        match self {
+            StopKind::Pickup => 0,
+            StopKind::DropOff => 1,
+        }
+    }
 }
 
 /// What a booking asks for from its pickup on: its drop-off, its load, and the most seconds that its ride may take.
@@ -41,6 +60,26 @@ impl Booking {
         match self {
             Booking::Waiting { journey, .. } => journey.number,
             Booking::Aboard { journey, .. } => journey.number,
+        }
+    }
+
+    /// The kind of the booking's next stop.
+    pub fn kind(self) -> StopKind
+        ensures { result ≡ kind_of self }
+    {
+        match self {
+            Booking::Waiting { .. } => StopKind::Pickup,
+            Booking::Aboard { .. } => StopKind::DropOff,
+        }
+    }
+
+    /// The booking's next stop: its pickup while it waits, its drop-off once it is aboard.
+    pub fn next_stop(self) -> Stop
+        ensures { result ≡ next_stop self }
+    {
+        match self {
+            Booking::Waiting { pickup, .. } => pickup,
+            Booking::Aboard { journey, .. } => journey.dropoff,
         }
     }
 }

@@ -11,10 +11,10 @@ week = 604800
 abbrev pub figure : ℕ → List ℕ → ℕ
 figure position figures = slice_index figures (position - 1)
 
--- nothing where the test of the figure at this position passed
-abbrev pub required : Bool → ℕ → Result (Unit {0}) BadFigure
-required true position = Ok tt
-required false position = Err (record { position = position })
+-- nothing where a check passed, else what it refuses with
+abbrev pub required : {E : Type 0} → Bool → E → Result (Unit {0}) E
+required true error = Ok tt
+required false error = Err error
 
 -- the promise, if every test passes; the tests are of the figures from this position on
 abbrev pub judged : ℕ → List Bool → Promise → Result Promise BadFigure

@@ -81,15 +81,18 @@ pub trait Stowage {
     ghost keeps: { (s : Self) → Keeps (promise s) };
 }
 
-/// Goes on where the figure at this position is good.
-fn require(good: bool, position: u32) -> Result<(), BadFigure>
-    ensures { result ≡ required good position }
+/// Goes on where a check passes.
+pub fn require<E: Drop>(passes: bool, error: E) -> Result<(), E>
+    ensures { result ≡ required passes error }
 {
-    if good {
-        Ok(())
-    } else {
-        Err(BadFigure { position })
-    }
+    if passes { Ok(()) } else { Err(error) }
+}
+
+/// Goes on where the figure at this position is good.
+fn require_figure(good: bool, position: u32) -> Result<(), BadFigure>
+    ensures { result ≡ required good (record { position = position }) }
+{
+    require(good, BadFigure { position })
 }
 
 /// The hold with all the loads, if they fit together. No order of them fits to another end, and any part of what fits

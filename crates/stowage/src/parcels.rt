@@ -6,7 +6,7 @@ ghost use Rattle.stowage.specs.declared.cargo.Cargo.{Cargo};
 ghost use Rattle.stowage.specs.Sums.{sums_exchange, cargo_falls};
 ghost use Rattle.stowage.specs.Judged.{parcels_keep};
 
-use crate::{BadFigure, Cargo, Load, Promise, Stowage, WEEK, Window, require};
+use crate::{BadFigure, Cargo, Load, Promise, Stowage, WEEK, Window, require_figure};
 
 /// Figures: litres, kilograms, pickup opens, pickup closes, drop-off opens, drop-off closes.
 #[derive(Clone, Copy, PartialEq, Eq, Debug)]
@@ -61,12 +61,12 @@ impl Stowage for Parcels {
             drop_opens,
             drop_closes,
         ] = figures;
-        require(1 <= litres && litres <= 6_000, 1)?;
-        require(1 <= kilograms && kilograms <= 900, 2)?;
-        require(pickup_opens <= WEEK, 3)?;
-        require(pickup_opens <= pickup_closes && pickup_closes <= WEEK, 4)?;
-        require(drop_opens <= WEEK, 5)?;
-        require(drop_opens <= drop_closes && drop_closes <= WEEK, 6)?;
+        require_figure(1 <= litres && litres <= 6_000, 1)?;
+        require_figure(1 <= kilograms && kilograms <= 900, 2)?;
+        require_figure(pickup_opens <= WEEK, 3)?;
+        require_figure(pickup_opens <= pickup_closes && pickup_closes <= WEEK, 4)?;
+        require_figure(drop_opens <= WEEK, 5)?;
+        require_figure(drop_opens <= drop_closes && drop_closes <= WEEK, 6)?;
         Ok(Promise {
             load: Load {
                 first: litres as u16,

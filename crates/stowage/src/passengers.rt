@@ -6,7 +6,9 @@ ghost use Rattle.stowage.specs.declared.seating.Seating.{Seating};
 ghost use Rattle.stowage.specs.Sums.{sums_exchange, seating_falls};
 ghost use Rattle.stowage.specs.Judged.{passengers_keep};
 
-use crate::{BadFigure, LONGEST_TRIP, Load, Promise, Seating, Stowage, WEEK, Window, require};
+use crate::{
+    BadFigure, LONGEST_TRIP, Load, Promise, Seating, Stowage, WEEK, Window, require_figure,
+};
 
 /// Figures: seats, wheelchairs, ready, wait, detour percent, last arrival.
 #[derive(Clone, Copy, PartialEq, Eq, Debug)]
@@ -63,12 +65,12 @@ impl Stowage for Passengers {
 
     fn promise(&self, figures: [u32; 6], direct: u32) -> Result<Promise, BadFigure> {
         let [seats, wheelchairs, ready, wait, percent, arrive_by] = figures;
-        require(seats <= 8, 1)?;
-        require(wheelchairs <= 2 && (seats > 0 || wheelchairs > 0), 2)?;
-        require(ready <= WEEK, 3)?;
-        require(wait <= 7_200 && ready + wait <= WEEK, 4)?;
-        require(percent <= 300, 5)?;
-        require(arrive_by <= WEEK, 6)?;
+        require_figure(seats <= 8, 1)?;
+        require_figure(wheelchairs <= 2 && (seats > 0 || wheelchairs > 0), 2)?;
+        require_figure(ready <= WEEK, 3)?;
+        require_figure(wait <= 7_200 && ready + wait <= WEEK, 4)?;
+        require_figure(percent <= 300, 5)?;
+        require_figure(arrive_by <= WEEK, 6)?;
         Ok(Promise {
             load: Load {
                 first: seats as u16,
