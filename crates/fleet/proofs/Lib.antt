@@ -1,5 +1,6 @@
 -- Declares the lemmas that the proofs share.
 pub mod Packed
+pub mod Placed
 pub mod Vans
 pub mod Accepted
 pub mod Edited

@@ -7,9 +7,43 @@ use Rattle.orders.specs.declared.Journey.{Journey}
 use Rattle.orders.specs.declared.Stop.{Stop}
 use Rattle.orders.specs.Bookings.{number_of, remaining, insert, remove, served}
 use Rattle.growth.specs.Positions.{compact}
-use Rattle.fleet.specs.Slots.{slots, is_numbered, put_in, take_out, in_place, pick_of, numbered}
+use Rattle.fleet.specs.Slots.{slots, stays_before, is_numbered, numbered, exchanged}
 
-none_is_none : {X : Type 0} {x : X} → Some x ≡ None → ⊥
+-- one more booking between three places
+abbrev pub put_in : Booking → (a b c : Option Booking) → List (Option Booking)
+put_in x a b c =
+    cond (not (stays_before (number_of x) a)) (Some x ∷ a ∷ b ∷ c ∷ [])
+    (cond (not (stays_before (number_of x) b)) (a ∷ Some x ∷ b ∷ c ∷ [])
+    (cond (not (stays_before (number_of x) c)) (a ∷ b ∷ Some x ∷ c ∷ [])
+    (a ∷ b ∷ c ∷ Some x ∷ [])))
+
+-- four places without the first booking of number n
+abbrev pub take_out : ℕ → (a b c d : Option Booking) → List (Option Booking)
+take_out n a b c d =
+    cond (is_numbered n a) (b ∷ c ∷ d ∷ None ∷ [])
+    (cond (is_numbered n b) (a ∷ c ∷ d ∷ None ∷ [])
+    (cond (is_numbered n c) (a ∷ b ∷ d ∷ None ∷ [])
+    (cond (is_numbered n d) (a ∷ b ∷ c ∷ None ∷ [])
+    (a ∷ b ∷ c ∷ d ∷ []))))
+
+-- four places with x in place of the first booking of number n
+abbrev pub in_place : ℕ → Booking → (a b c d : Option Booking) → List (Option Booking)
+in_place n x a b c d =
+    cond (is_numbered n a) (Some x ∷ b ∷ c ∷ d ∷ [])
+    (cond (is_numbered n b) (a ∷ Some x ∷ c ∷ d ∷ [])
+    (cond (is_numbered n c) (a ∷ b ∷ Some x ∷ d ∷ [])
+    (cond (is_numbered n d) (a ∷ b ∷ c ∷ Some x ∷ [])
+    (a ∷ b ∷ c ∷ d ∷ []))))
+
+-- the booking of number n in four places
+abbrev pub pick_of : ℕ → (a b c d : Option Booking) → Option Booking
+pick_of n a b c d =
+    cond (is_numbered n a) a
+    (cond (is_numbered n b) b
+    (cond (is_numbered n c) c
+    (cond (is_numbered n d) d None)))
+
+pub none_is_none : {X : Type 0} {x : X} → Some x ≡ None → ⊥
 none_is_none e = let z : ◌≡◌ {A = ℕ} 0 1 = cc in omega arith
 
 -- at most n is not above it
@@ -60,13 +94,6 @@ spread f l = f (get_or l 0 None) (get_or l 1 None) (get_or l 2 None) (get_or l 3
 
 -- at the first booking of number n, what comes from it on is edited
 module _ (n : ℕ) (edit : List Booking → List Booking) where
-  abbrev is : Booking → Bool
-  is b = eqb (number_of b) n
-
-  abbrev pub edited : List Booking → List Booking
-  edited [] = []
-  edited (b ∷ bs) = cond (is b) (edit bs) (b ∷ edited bs)
-
   one : (p : Booking) (s : Bool) → cond s (slots (edit [])) (slots (p ∷ [])) ≡ slots (cond s (edit []) (p ∷ []))
   one p true = refl
   one p false = refl
@@ -103,7 +130,7 @@ take_out_slots n (p ∷ q ∷ r ∷ []) h = three n (λ l. l) p q r _ _ _
 take_out_slots n (p ∷ q ∷ r ∷ o ∷ []) h = four n (λ l. l) p q r o _ _ _ _
 take_out_slots n (p ∷ q ∷ r ∷ o ∷ b ∷ bs) h = absurd (omega arith)
 
-pub in_place_slots : (n : ℕ) (x : Booking) (bs : List Booking) → length bs ≤ 4 → spread (in_place n x) (slots bs) ≡ slots (edited n (λ l. x ∷ l) bs)
+pub in_place_slots : (n : ℕ) (x : Booking) (bs : List Booking) → length bs ≤ 4 → spread (in_place n x) (slots bs) ≡ slots (exchanged n x bs)
 in_place_slots n x [] h = refl
 in_place_slots n x (p ∷ []) h = one n (λ l. x ∷ l) p _
 in_place_slots n x (p ∷ q ∷ []) h = two n (λ l. x ∷ l) p q _ _
@@ -149,11 +176,11 @@ module _ (d n : ℕ) where
       by true more f = absurd (none_is_none f)
       by false more f = ap (λ l. b ∷ l) (more f)
 
-  pub served_waiting : (p : Stop) (j : Journey) (bs : List Booking) → numbered n bs ≡ Some (Waiting p j) → served d n bs ≡ edited n (λ l. Aboard d j ∷ l) bs
+  pub served_waiting : (p : Stop) (j : Journey) (bs : List Booking) → numbered n bs ≡ Some (Waiting p j) → served d n bs ≡ exchanged n (Aboard d j) bs
   served_waiting p j [] e = absurd (none_is_none (sym e))
   served_waiting p j (b ∷ bs) e = by (eqb (number_of b) n) (served_waiting p j bs) e
     where
-      by : (t : Bool) → (numbered n bs ≡ Some (Waiting p j) → served d n bs ≡ edited n (λ l. Aboard d j ∷ l) bs) → cond t (Some b) (numbered n bs) ≡ Some (Waiting p j) → cond t (remaining d b ++ bs) (b ∷ served d n bs) ≡ cond t (Aboard d j ∷ bs) (b ∷ edited n (λ l. Aboard d j ∷ l) bs)
+      by : (t : Bool) → (numbered n bs ≡ Some (Waiting p j) → served d n bs ≡ exchanged n (Aboard d j) bs) → cond t (Some b) (numbered n bs) ≡ Some (Waiting p j) → cond t (remaining d b ++ bs) (b ∷ served d n bs) ≡ cond t (Aboard d j ∷ bs) (b ∷ exchanged n (Aboard d j) bs)
       by true more f = let g : b ≡ Waiting p j = cc in ap (λ x. remaining d x ++ bs) g
       by false more f = ap (λ l. b ∷ l) (more f)
 

@@ -1,5 +1,5 @@
 -- Vans that change one after the other.
-use Rattle.std.proofs.Common.{◌≡◌, ℕ, zero, suc, ◌+◌, ◌<◌, ◌≤◌, List, [], ◌∷◌, ◌++◌, map, length, get_or, take, drop, set, Some, None, Ok, Option, sym, refl, ap, ◌∙◌, subst, append-nil, add-one, arith, length-append, length-drop, length-take, drop-cons}
+use Rattle.std.proofs.Common.{◌≡◌, Bool, true, false, Err, ℕ, zero, suc, ◌+◌, ◌<◌, ◌≤◌, List, [], ◌∷◌, ◌++◌, map, length, get_or, take, drop, set, Some, None, Ok, Option, sym, refl, ap, ◌∙◌, subst, append-nil, add-one, arith, length-append, length-drop, length-take, drop-cons}
 use Rattle.std.proofs.lemmas.List.Edits.{map_over_more}
 use Rattle.std.proofs.lemmas.List.{take_all, drop_all, length-map, get_or_default}
 use Rattle.orders.specs.declared.Booking.{Booking}
@@ -9,7 +9,8 @@ use Rattle.orders.specs.declared.Stop.{Stop}
 use Rattle.orders.specs.Bookings.{remove}
 use Rattle.growth.specs.Positions.{compact}
 use Rattle.fleet.specs.Slots.{slots}
-use Rattle.fleet.specs.States.{waited, open_on, holder_of, of_holder, of_van, cancelled_from, cancelled_on, cancel_call, Changes}
+use Rattle.fleet.specs.States.{check, is_van, van_at, on_duty, waited, open_on, holder_of, of_holder, of_van, cancelled_from, cancelled_on, cancel_call, Changes}
+use Rattle.fleet.specs.declared.refusal.Refusal.TheVariants.{NoSuchVan}
 use Rattle.fleet.specs.declared.state.State.{State}
 use Rattle.fleet.specs.declared.state.Van.{Van}
 
@@ -17,21 +18,22 @@ use Rattle.fleet.specs.declared.state.Van.{Van}
 abbrev pub with_vans : State → List (Option Van) → State
 with_vans s vans = record { size = s.size; open_limit = s.open_limit; clock = s.clock; vans = vans }
 
-module _ (change : Option Van → Option Van) (s₀ : State) where
+module _ (change : Option Van → Option Van) (vs : List (Option Van)) where
   -- the vans before the i-th are changed
   abbrev pub changed_to : ℕ → List (Option Van)
-  changed_to i = map change (take i s₀.vans) ++ drop i s₀.vans
+  changed_to i = map change (take i vs) ++ drop i vs
 
-  pub one_more : (s : State) (i : ℕ) → i < length s₀.vans → s ≡ with_vans s₀ (changed_to i) →
-      with_vans s (set s.vans i (change (get_or s.vans i None))) ≡ with_vans s₀ (changed_to (i + 1))
-  one_more s i h e =
+  pub one_more : (xs : List (Option Van)) (i : ℕ) → i < length vs → xs ≡ changed_to i → set xs i (change (get_or xs i None)) ≡ changed_to (i + 1)
+  one_more xs i h e =
       let long : i < length (changed_to i) = simp (length-append, length-map, length-take, length-drop) (omega arith) in
-      ap (λ (t : State). with_vans t (set t.vans i (change (get_or t.vans i None)))) e
-      ∙ ap (with_vans s₀) (map_over_more change s₀.vans (changed_to i) i (get_or (changed_to i) i None) h refl (get_or_default (changed_to i) i None _ long))
+      ap (λ (l : List (Option Van)). set l i (change (get_or l i None))) e
+      ∙ map_over_more change vs (changed_to i) i (get_or (changed_to i) i None) h refl (get_or_default (changed_to i) i None _ long)
 
-  pub all_changed : (i : ℕ) → length s₀.vans ≤ i → changed_to i ≡ map change s₀.vans
-  all_changed i h =
-      (λ j. map change (take_all i s₀.vans h j) ++ drop_all i s₀.vans h j) ∙ append-nil (map change s₀.vans)
+  pub all_changed : (i : ℕ) → length vs ≤ i → changed_to i ≡ map change vs
+  all_changed i h = (λ j. map change (take_all i vs h j) ++ drop_all i vs h j) ∙ append-nil (map change vs)
+
+err_is_err : {X E : Type 0} {f : E} {x : X} → Err f ≡ Ok x → ⊥
+err_is_err e = let z : ◌≡◌ {A = ℕ} 0 1 = cc in omega arith
 
 -- the van at an index once every van has waited
 pub van_waited : (time : ℕ) (os : List (Option Van)) (i : ℕ) → get_or (map (waited time) os) i None ≡ waited time (get_or os i None)
@@ -74,3 +76,15 @@ cancel_changes s n i p j w held e f h =
     let Held : Option (ℕ × Booking) → Type 0 = λ o. Changes (of_holder o (cancelled_from s n)) s after (Ok tt) in
     let On : Option Van → Type 0 = λ o. Changes (of_van o (λ v. Ok (cancelled_on s n i v))) s after (Ok tt) in
     subst Held (sym e) (subst On (sym f) (ap (λ l. with_vans s (set s.vans i (Some (with_bookings w l)))) h, refl))
+
+-- a van that is on duty has a number and stands at its place
+pub duty_at : (s : State) (v : ℕ) (w : Van) → on_duty s v ≡ Ok w → (is_van s v ≡ true) × (van_at s v ≡ Some w)
+duty_at s v w = numbered (is_van s v)
+  where
+    there : (o : Option Van) → of_van o (λ w. Ok w) ≡ Ok w → o ≡ Some w
+    there None e = absurd (err_is_err e)
+    there (Some u) e = let g : u ≡ w = cc in ap Some g
+
+    numbered : (t : Bool) → check t NoSuchVan (of_van (van_at s v) (λ w. Ok w)) ≡ Ok w → (t ≡ true) × (van_at s v ≡ Some w)
+    numbered true e = (refl, there (van_at s v) e)
+    numbered false e = absurd (err_is_err e)

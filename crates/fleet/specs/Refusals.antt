@@ -1,5 +1,5 @@
--- Defines the number and the detail of each refusal, and that the first failing check refuses a call.
-use Rattle.std.specs.Prelude.{ℕ, Bool, true, false, Ok, Err, Result}
+-- Defines the number and the detail of each refusal.
+use Rattle.std.specs.Prelude.{ℕ}
 use Rattle.fleet.specs.declared.refusal.Refusal.{Refusal}
 use Rattle.fleet.specs.declared.refusal.Refusal.TheVariants.{VanCount, OpenLimit, TooFewNodes, BeyondWeek, NoSuchVan, OnDuty, OffDuty, NoSuchPlace, TooEarly, HasBookings, BadNumber, AlreadyOpen, NotOpen, BadFigure, NoVan, Aboard, NotThere, DoesNotFit, NoOrder}
 
@@ -46,8 +46,3 @@ refusal_detail Aboard = 0
 refusal_detail NotThere = 0
 refusal_detail DoesNotFit = 0
 refusal_detail NoOrder = 0
-
--- nothing where a check passed
-abbrev pub required : Bool → Refusal → Result (Unit {0}) Refusal
-required true refusal = Ok tt
-required false refusal = Err refusal

@@ -2,7 +2,8 @@
 use Rattle.std.specs.Prelude.{◌≡◌, ℕ, ◌+◌, ◌-◌, Bool, true, false, cond, not, ◌&&◌, List, [], ◌∷◌, map, length, is_some, Some, None, Ok, Err, Option, Result, ◌==◌, nat_le, nat_lt, slice_index_or, slice_set}
 use Rattle.orders.specs.declared.Booking.{Booking}
 use Rattle.orders.specs.declared.Booking.TheVariants.{Waiting, Aboard}
-use Rattle.orders.specs.Bookings.{next_stop, stop_kind, served, insert, remove}
+use Rattle.orders.specs.declared.StopKind.{StopKind}
+use Rattle.orders.specs.Bookings.{next_stop, kind_of, served, insert, remove}
 use Rattle.orders.specs.Rules.{Rules}
 use Rattle.orders.specs.Walks.{Walk, departs, van}
 use Rattle.fleet.specs.declared.refusal.Refusal.{Refusal}
@@ -82,6 +83,13 @@ join_call s places v place time =
 abbrev pub of_van : {X : Type 0} → Option Van → (Van → Result X Refusal) → Result X Refusal
 of_van None ask = Err OffDuty
 of_van (Some w) ask = ask w
+
+-- the van of that number, which has to be on duty
+abbrev pub on_duty : State → ℕ → Result Van Refusal
+on_duty s v =
+    check (is_van s v) NoSuchVan
+    (of_van (van_at s v) (λ w.
+    Ok w))
 
 -- leave: a van with nothing open goes off duty
 abbrev pub leave_call : State → ℕ → Result State Refusal
@@ -180,12 +188,12 @@ abbrev pub over_by : ℕ → Booking → ℕ
 over_by driven (Waiting pickup j) = 0
 over_by driven (Aboard since j) = (driven - since) - j.ride_limit
 
--- what is told of a stop that is served: 0 for a pickup or 1 for a drop-off, the seconds late, the road seconds over
+-- what is told of a stop that is served: pickup or drop-off, the seconds late, the road seconds over
 abbrev pub Service : Type 0
-Service = ℕ × ℕ × ℕ
+Service = StopKind × ℕ × ℕ
 
 abbrev pub service_of : Van → Booking → ℕ → Service
-service_of w b time = (stop_kind b, late_by time b, over_by w.driven b)
+service_of w b time = (kind_of b, late_by time b, over_by w.driven b)
 
 -- served: the van is where the stop is, not before it opens, and a load that is picked up fits
 abbrev pub served_call : Rules → State → (van number time : ℕ) → Result (State × Service) Refusal

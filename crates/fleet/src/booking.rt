@@ -6,14 +6,12 @@ ghost use Rattle.fleet.specs.States.{is_van, open_bookings, requested, taking, t
 ghost use Rattle.fleet.specs.SoundTest.{is_sound};
 
 use crate::quote::promise_for;
-use crate::refusal::require;
 use crate::slots::insert_booking;
-use crate::state::holder;
 use crate::{Refusal, State, Van};
 use growth::Ground;
 use orders::{Booking, Journey, Stop};
 use roads::Roads;
-use stowage::Stowage;
+use stowage::{Stowage, require};
 
 /// The highest booking number.
 const LAST_NUMBER: u32 = 65_535;
@@ -23,12 +21,9 @@ impl Van {
     pub fn taking(self, booking: Booking) -> Van
         ensures { self.bookings ≡ slots (open_bookings self) → length (open_bookings self) < 4 → result ≡ taking self booking }
     {
-        let bookings = insert_booking(self.bookings, booking);
         Van {
-            place: self.place,
-            second: self.second,
-            driven: self.driven,
-            bookings,
+            bookings: insert_booking(self.bookings, booking),
+            ..self
         }
     }
 }
@@ -46,7 +41,7 @@ impl State {
         ensures { result ≡ requested (terms_of R.Roads S.Stowage ground.entry) self.now number from to figures }
     {
         require(is_number(number), Refusal::BadNumber)?;
-        require(holder(self.vans, number).is_none(), Refusal::AlreadyOpen)?;
+        require(self.holder(number).is_none(), Refusal::AlreadyOpen)?;
         let promise = promise_for(ground.roads, ground.rule, from, to, figures)?;
         Ok(Booking::Waiting {
             pickup: Stop {

@@ -1,5 +1,6 @@
 //! The calls that a running dispatcher takes, and what it answers.
 use crate::Refusal;
+use orders::StopKind;
 use van_slab::Itinerary;
 
 /// A call to a running dispatcher.
@@ -53,19 +54,24 @@ pub struct Booked {
     pub dropoff: u32,
 }
 
-/// What a call is answered.
-#[derive(Clone, Copy)]
-pub enum Answer {
-    /// The call is accepted, and there is nothing to tell.
+/// What an accepted call reports.
+#[derive(Clone, Copy, PartialEq, Eq, Debug)]
+pub enum Report {
+    /// There is nothing to tell.
     Done,
     Booked(Booked),
-    /// A stop was served: 0 for a pickup or 1 for a drop-off, the seconds that it was late, and the road seconds by which
-    /// its ride was over its limit.
-    Served { kind: u32, late: u32, over: u32 },
+    /// A stop was served: its kind, the seconds that it was late, and the road seconds by which its ride was over its limit.
+    Served {
+        kind: StopKind,
+        late: u32,
+        over: u32,
+    },
     /// An order of a van.
     Listed(Itinerary),
-    Refused(Refusal),
 }
+
+/// What a call is answered: a report where it is accepted, else why it is refused.
+pub type Answer = Result<Report, Refusal>;
 
 /// A van, by its number, offers to take a booking at a price.
 #[derive(Clone, Copy, PartialEq, Eq, Debug)]

@@ -9,8 +9,8 @@ mod serving;
 mod slots;
 mod state;
 
-pub use call::{Answer, Booked, Call, Offer};
+pub use call::{Answer, Booked, Call, Offer, Report};
 pub use quote::promise_for;
-pub use refusal::{Refusal, require};
+pub use refusal::Refusal;
 pub use slots::{Slots, find_booking, insert_booking, remove_booking, serve_booking};
-pub use state::{State, Van, holder};
+pub use state::{State, Van};

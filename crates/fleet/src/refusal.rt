@@ -1,6 +1,6 @@
 //! Why a call is refused.
 ghost use Rattle.std.specs.Prelude.{◌≡◌};
-ghost use Rattle.fleet.specs.Refusals.{refusal_number, refusal_detail, required};
+ghost use Rattle.fleet.specs.Refusals.{refusal_number, refusal_detail};
 
 /// Why a call is refused.
 #[derive(Clone, Copy, PartialEq, Eq, Debug)]
@@ -76,11 +76,4 @@ impl Refusal {
             _ => 0,
         }
     }
-}
-
-/// Goes on where a check passes.
-pub fn require(passes: bool, refusal: Refusal) -> Result<(), Refusal>
-    ensures { result ≡ required passes refusal }
-{
-    if passes { Ok(()) } else { Err(refusal) }
 }

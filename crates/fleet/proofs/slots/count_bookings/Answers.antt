@@ -1,23 +1,15 @@
--- The four places one after the other.
-use Rattle.std.proofs.Common.{◌≡◌, ◌+◌, List, [], ◌∷◌, length, get_or, Some, None, Option, ap, arith, rules}
+-- Each place that is taken counts once.
+use Rattle.std.proofs.Common.{◌≡◌, ◌+◌, cond, List, ◌∷◌, length, count_by, is_some, Some, None, Option, refl, sym, ◌∙◌, rules}
+use Rattle.std.proofs.lemmas.List.Recursion.{is_count_by}
 use Rattle.orders.specs.declared.Booking.{Booking}
 use Rattle.growth.specs.Positions.{compact}
-use Rattle.fleet.proofs.Packed.{four_of}
 use Rattle.fleet.proofs.slots.count_bookings.Goals as goal
 
-one_more : (o : Option Booking) (os : List (Option Booking)) → length (compact (o ∷ os)) ≡ length (compact (o ∷ [])) + length (compact os)
-one_more None os = omega arith
-one_more (Some b) os = omega arith
+one_place : (o : Option Booking) (os : List (Option Booking)) → length (compact (o ∷ os)) ≡ cond (is_some o) (1 + length (compact os)) (length (compact os))
+one_place None os = refl
+one_place (Some b) os = search rules
 
 pub returns : goal.returns
 returns c =
-    let held = c.args.held in
-    let all = ap (λ (l : List (Option Booking)). length (compact l)) (four_of held (search rules)) in
-    let p = one_more (get_or held 0 None) (get_or held 1 None ∷ get_or held 2 None ∷ get_or held 3 None ∷ []) in
-    let q = one_more (get_or held 1 None) (get_or held 2 None ∷ get_or held 3 None ∷ []) in
-    let r = one_more (get_or held 2 None) (get_or held 3 None ∷ []) in
-    let e = c.taken.ensures in
-    let f = c.taken-2.ensures in
-    let g = c.taken-3.ensures in
-    let h = c.taken-4.ensures in
-    omega arith
+    let counted : c.count.result ≡ count_by is_some c.args.held = search rules in
+    counted ∙ sym (is_count_by (λ os. length (compact os)) is_some refl one_place c.args.held)

@@ -1,12 +1,16 @@
--- The four places one after the other.
-use Rattle.std.proofs.Common.{get_or, None, sym, ap, ◌∙◌, rules}
-use Rattle.growth.specs.Positions.{compact}
-use Rattle.fleet.specs.Slots.{numbered}
-use Rattle.fleet.proofs.Packed.{pick_compact, four_of}
+-- The booking stands at the place that was found.
+use Rattle.std.proofs.Common.{◌≡◌, Some, None, ◌∙◌, rules}
+use Rattle.fleet.specs.Slots.{place_of}
+use Rattle.fleet.proofs.Placed.{what_stands, nothing_stands}
 use Rattle.fleet.proofs.slots.find_booking.Goals as goal
+
+pub returns-in_err-place_of : goal.returns-in_err-place_of
+returns-in_err-place_of c =
+    let found : place_of c.args.n c.args.held ≡ None = search rules in
+    let none : c.from_residual.result ≡ None = search rules in
+    none ∙ nothing_stands c.args.n c.args.held (search rules) found
 
 pub returns : goal.returns
 returns c =
-    let held = c.args.held in
-    c.pick.ensures ∙ pick_compact c.args.n (get_or held 0 None) (get_or held 1 None) (get_or held 2 None) (get_or held 3 None)
-    ∙ ap (λ l. numbered c.args.n (compact l)) (sym (four_of held (search rules)))
+    let found : place_of c.args.n c.args.held ≡ Some c.in_ok-place_of.field-0 = search rules in
+    what_stands c.args.n c.args.held (search rules) c.in_ok-place_of.field-0 found

@@ -1,9 +1,9 @@
--- The booking of that number, if it is there, is replaced or taken out.
+-- The booking of that number, if it is there, is exchanged or taken out.
 use Rattle.std.proofs.Common.{◌≡◌, ℕ, List, Some, Option, sym, ap, ◌∙◌}
 use Rattle.orders.specs.declared.Booking.{Booking}
 use Rattle.growth.specs.Positions.{compact}
-use Rattle.fleet.specs.Slots.{slots, in_place, numbered}
-use Rattle.fleet.proofs.Packed.{spread, compact_slots, in_place_slots, served_waiting, served_aboard, served_none}
+use Rattle.fleet.specs.Slots.{slots, numbered}
+use Rattle.fleet.proofs.Packed.{compact_slots, served_waiting, served_aboard, served_none}
 use Rattle.fleet.proofs.slots.serve_booking.Goals as goal
 
 -- what is looked for among the bookings is looked for in their places
@@ -12,14 +12,14 @@ open_one n held bs e = ap (numbered n) (sym (ap compact e ∙ compact_slots bs))
 
 pub returns-in-Waiting : goal.returns-in-Waiting
 returns-in-Waiting c bs e h =
-    c.exchange.ensures ∙ ap (spread (in_place c.args.n _)) e ∙ in_place_slots c.args.n _ bs h
-    ∙ ap slots (sym (served_waiting c.args.driven c.args.n c.in-Waiting.pickup c.in-Waiting.journey bs
+    c.exchange.ensures bs e h
+    ∙ ap slots (sym (served_waiting c.args.driven c.args.n _ c.in-Waiting.journey bs
     (open_one c.args.n c.args.held bs e ∙ sym c.in-Some.ensures ∙ ap Some c.in-Waiting.is)))
 
 pub returns-in-Aboard : goal.returns-in-Aboard
 returns-in-Aboard c bs e h =
     c.remove_booking.ensures bs e h
-    ∙ ap slots (sym (served_aboard c.args.driven c.args.n c.in-Aboard.since c.in-Aboard.journey bs
+    ∙ ap slots (sym (served_aboard c.args.driven c.args.n _ _ bs
     (open_one c.args.n c.args.held bs e ∙ sym c.in-Some.ensures ∙ ap Some c.in-Aboard.is)))
 
 pub returns-in_default : goal.returns-in_default
