@@ -6,7 +6,7 @@ use Rattle.orders.specs.Rules.{Rules}
 use Rattle.fleet.specs.declared.refusal.Refusal.{Refusal}
 use Rattle.fleet.specs.declared.refusal.Refusal.TheVariants.{TooFewNodes}
 use Rattle.fleet.specs.declared.state.State.{State}
-use Rattle.fleet.specs.Refusals.{required}
+use Rattle.stowage.specs.Figures.{required}
 use Rattle.fleet.specs.States.{check, no_answer, Acts, Changes}
 use Rattle.fleet.specs.SoundTest.{is_sound}
 use Rattle.fleet.proofs.Accepted.{never}

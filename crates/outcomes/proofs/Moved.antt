@@ -6,6 +6,7 @@ use Rattle.stowage.specs.Together.{stowed}
 use Rattle.orders.specs.declared.Booking.{Booking}
 use Rattle.orders.specs.declared.Booking.TheVariants.{Waiting, Aboard}
 use Rattle.orders.specs.declared.Node.{Node}
+use Rattle.orders.specs.declared.StopKind.{StopKind}
 use Rattle.orders.specs.Rules.{Rules, Lawful}
 use Rattle.orders.specs.Bookings.{In, number_of, next_stop, remaining, loads}
 use Rattle.orders.specs.Bookings.{served as served_bookings}
@@ -54,7 +55,7 @@ kept_limits g w (Waiting pickup j) z n m fits o =
 kept_limits g w (Aboard since j) z n m fits o = le-leb _ _ (omega arith)
 
 -- then the nodes below the stop suffice
-service_suffices : (g : Rules) → Lawful g → (s : State) (v n time : ℕ) (s' : State) (kind late over : ℕ) (a : accepted.Served g s v n time (s', (kind, late, over))) → SoundVan s.clock s.open_limit a.van →
+service_suffices : (g : Rules) → Lawful g → (s : State) (v n time : ℕ) (s' : State) (kind : StopKind) (late over : ℕ) (a : accepted.Served g s v n time (s', (kind, late, over))) → SoundVan s.clock s.open_limit a.van →
     as_ordered late over (ltb a.van.place g.places) ≡ true → (kind, late, over) ≡ States.service_of a.van a.booking time → (old : List Node) → old ≡ slab (slab_nodes s) (tree_row g (States.van_walk a.van)) →
     Suffices g Nobody (below_root n old) (States.van_walk (States.served_van a.van n time))
 service_suffices g lawful s v n time s' kind late over a van m told old e =
@@ -159,7 +160,7 @@ module _ (g : Rules) (s : State) (h : is_sound s ≡ true) (nodes nodes' : List 
           (bare g s h nodes (one_van v) v a.its (Some w)
           (ap (λ o. slab (slab_nodes s) (van_row g o)) a.at ∙ ap (slab (slab_nodes s)) (no_tree g s h nodes a.van m ∙ sym (no_tree g s h nodes w m))))
 
-  pub served_written : Lawful g → (v n time : ℕ) (s' : State) (kind late over : ℕ) → States.served_call g s v n time ≡ Ok (s', (kind, late, over)) →
+  pub served_written : Lawful g → (v n time : ℕ) (s' : State) (kind : StopKind) (late over : ℕ) → States.served_call g s v n time ≡ Ok (s', (kind, late, over)) →
       ((w : Van) → States.van_at s' v ≡ Some w → RegrownAfter g s' (v - 1) n (as_ordered late over (ltb w.place g.places)) w nodes nodes') → Writes g s nodes (one_van v) true s' nodes'
   served_written lawful v n time s' kind late over e r =
       let a = accepted.served_accepted g s v n time (s', (kind, late, over)) e in

@@ -6,11 +6,11 @@ use Rattle.van_slab.specs.declared.Itinerary.{Itinerary}
 use Rattle.fleet.specs.declared.call.Booked.{Booked}
 use Rattle.fleet.specs.declared.call.Call.{Call}
 use Rattle.fleet.specs.declared.call.Call.TheVariants.{Clock, Join, Leave, Book, Bound, Served, Cancel, Plan, Order}
-use Rattle.fleet.specs.declared.call.Answer.{Answer}
-use Rattle.fleet.specs.declared.call.Answer.TheVariants as answer
+use Rattle.fleet.specs.declared.call.Report.{Report}
+use Rattle.fleet.specs.declared.call.Report.TheVariants as report
 use Rattle.fleet.specs.declared.refusal.Refusal.{Refusal}
 use Rattle.fleet.specs.declared.state.State.{State}
-use Rattle.fleet.specs.Answers.{answer_number, accepted}
+use Rattle.fleet.specs.Answers.{Answer, answer_number, accepted}
 use Rattle.fleet.specs.Terms.{Terms}
 use Rattle.fleet.specs.States.{clock_call, join_call, leave_call, bound_call, served_call, cancel_call, requested, no_answer, Service}
 use Rattle.outcomes.specs.Settled.{needed, Settled, Writes, untouched, one_van, waiting_vans, holding_van, roomy_vans}
@@ -18,18 +18,18 @@ use Rattle.outcomes.specs.Outcomes.{with_nodes, book_call, plan_call, order_call
 use Rattle.outcomes.specs.Fairness.{Exact, CanTake, Won}
 
 -- how a result is told
-abbrev pub told : {X : Type 0} → (X → Answer) → Result X Refusal → Answer
-told f (Ok x) = f x
-told f (Err e) = answer.Refused e
+abbrev pub told : {X : Type 0} → (X → Report) → Result X Refusal → Answer
+told f (Ok x) = Ok (f x)
+told f (Err e) = Err e
 
-abbrev pub done : Unit {0} → Answer
-done x = answer.Done
+abbrev pub done : Unit {0} → Report
+done x = report.Done
 
-abbrev pub service : Service → Answer
-service x = answer.Served x.0 x.1 x.2
+abbrev pub service : Service → Report
+service x = report.Served x.0 x.1 x.2
 
--- the state after, and the answer
-abbrev pub told_as : {X : Type 0} → (X → Answer) → Result (State × X) Refusal → Result (State × Answer) Refusal
+-- the state after, and what is reported
+abbrev pub told_as : {X : Type 0} → (X → Report) → Result (State × X) Refusal → Result (State × Report) Refusal
 told_as f (Ok q) = Ok (q.0, f q.1)
 told_as f (Err e) = Err e
 
@@ -39,28 +39,28 @@ of_state s (Ok r) = Ok (s, r)
 of_state s (Err e) = Err e
 
 -- what a call leads to, from the present state alone
-abbrev pub outcome : Terms → State → Call → Result (State × Answer) Refusal
+abbrev pub outcome : Terms → State → Call → Result (State × Report) Refusal
 outcome t s (Clock time) = told_as done (no_answer (clock_call s time))
 outcome t s (Join van place time) = told_as done (no_answer (join_call s t.rules.places van place time))
 outcome t s (Leave van) = told_as done (no_answer (leave_call s van))
-outcome t s (Book number from to figures) = told_as answer.Booked (book_call t s number from to figures)
+outcome t s (Book number from to figures) = told_as report.Booked (book_call t s number from to figures)
 outcome t s (Bound van place time) = told_as done (no_answer (bound_call s t.rules.places t.rules.trip van place time))
 outcome t s (Served van number time) = told_as service (served_call t.rules s van number time)
 outcome t s (Cancel number) = told_as done (no_answer (cancel_call s number))
-outcome t s (Plan van) = told_as answer.Listed (of_state s (plan_call t.rules s van))
-outcome t s (Order van index) = told_as answer.Listed (of_state s (order_call t.rules s van index))
+outcome t s (Plan van) = told_as report.Listed (of_state s (plan_call t.rules s van))
+outcome t s (Order van index) = told_as report.Listed (of_state s (order_call t.rules s van index))
 
 -- the answer, and the state after: a refused call leaves the state
-abbrev pub answer_of : Result (State × Answer) Refusal → Answer
-answer_of (Ok q) = q.1
-answer_of (Err e) = answer.Refused e
+abbrev pub answer_of : Result (State × Report) Refusal → Answer
+answer_of (Ok q) = Ok q.1
+answer_of (Err e) = Err e
 
-abbrev pub state_after : State → Result (State × Answer) Refusal → State
+abbrev pub state_after : State → Result (State × Report) Refusal → State
 state_after s (Ok q) = q.0
 state_after s (Err e) = s
 
 -- the call is answered, and leaves the state, as this outcome says
-pub record Gives (o : Result (State × Answer) Refusal) (s : State) (a : Answer) (s' : State) : Type 0 where
+pub record Gives (o : Result (State × Report) Refusal) (s : State) (a : Answer) (s' : State) : Type 0 where
   pub answer : a ≡ answer_of o
   pub state : s' ≡ state_after s o
 
@@ -82,12 +82,12 @@ abbrev pub OnAnyNodes : Terms → State → List Node → Call → Answer → St
 OnAnyNodes t s nodes (Clock time) a s' = Gives (with_nodes s (length nodes) (outcome t s (Clock time))) s a s'
 OnAnyNodes t s nodes (Join van place time) a s' = Gives (with_nodes s (length nodes) (outcome t s (Join van place time))) s a s'
 OnAnyNodes t s nodes (Leave van) a s' = Gives (with_nodes s (length nodes) (outcome t s (Leave van))) s a s'
-OnAnyNodes t s nodes (Book number from to figures) a s' = (r : Result Booked Refusal) × (a ≡ told answer.Booked r) × Books (with_nodes s (length nodes) (requested t s number from to figures)) s s' r
+OnAnyNodes t s nodes (Book number from to figures) a s' = (r : Result Booked Refusal) × (a ≡ told report.Booked r) × Books (with_nodes s (length nodes) (requested t s number from to figures)) s s' r
 OnAnyNodes t s nodes (Bound van place time) a s' = Gives (with_nodes s (length nodes) (outcome t s (Bound van place time))) s a s'
 OnAnyNodes t s nodes (Served van number time) a s' = Gives (with_nodes s (length nodes) (outcome t s (Served van number time))) s a s'
 OnAnyNodes t s nodes (Cancel number) a s' = Gives (with_nodes s (length nodes) (outcome t s (Cancel number))) s a s'
-OnAnyNodes t s nodes (Plan van) a s' = (a ≡ told answer.Listed (with_nodes s (length nodes) (plan_read s nodes van))) × (s' ≡ s)
-OnAnyNodes t s nodes (Order van index) a s' = (a ≡ told answer.Listed (with_nodes s (length nodes) (order_read s nodes van index))) × (s' ≡ s)
+OnAnyNodes t s nodes (Plan van) a s' = (a ≡ told report.Listed (with_nodes s (length nodes) (plan_read s nodes van))) × (s' ≡ s)
+OnAnyNodes t s nodes (Order van index) a s' = (a ≡ told report.Listed (with_nodes s (length nodes) (order_read s nodes van index))) × (s' ≡ s)
 
 -- What a call does, from a state and the nodes that it is handed to a state and the nodes that it leaves: on settled nodes
 -- it gives the outcome of the present state, and the nodes are settled after it; on any nodes so much holds as said above.
@@ -108,7 +108,7 @@ FairAnswer t s (Clock time) a s' = Unit {0}
 FairAnswer t s (Join van place time) a s' = Unit {0}
 FairAnswer t s (Leave van) a s' = Unit {0}
 FairAnswer t s (Book number from to figures) a s' = (b : Booking) → requested t s number from to figures ≡ Ok b →
-    ((answer_number a ≡ 18) ↔ ((v : ℕ) → CanTake t.rules s b v → ⊥)) × ((answer_number a ≡ 18) ⊎ ((x : Booked) × (a ≡ answer.Booked x) × Won t.rules s b s' x))
+    ((answer_number a ≡ 18) ↔ ((v : ℕ) → CanTake t.rules s b v → ⊥)) × ((answer_number a ≡ 18) ⊎ ((x : Booked) × (a ≡ Ok (report.Booked x)) × Won t.rules s b s' x))
 FairAnswer t s (Bound van place time) a s' = Unit {0}
 FairAnswer t s (Served van number time) a s' = Unit {0}
 FairAnswer t s (Cancel number) a s' = Unit {0}
