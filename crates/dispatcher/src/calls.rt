@@ -6,10 +6,9 @@ ghost use Rattle.outcomes.specs.Settled.{untouched, one_van, holding_van, Writes
 ghost use Rattle.outcomes.specs.Outcomes.{with_nodes};
 
 use crate::Dispatcher;
-use crate::memory::{follow_service, has_nodes, prune_moved, renew};
-use fleet::{Refusal, holder, require};
+use fleet::Refusal;
 use growth::Fresh;
-use orders::Node;
+use orders::{Node, StopKind};
 use roads::Roads;
 use stowage::Stowage;
 
@@ -20,7 +19,7 @@ impl<'a, R: Roads, S: Stowage> Dispatcher<'a, R, S> {
         ensures state { Changes (with_nodes self.old.state (length nodes.now) (join_call self.old.state (R.Roads.places self.old.ground.roads.now) van place time)) self.old.state self.new.state result }
         ensures nodes { Writes (rules_of R.Roads S.Stowage self.old.ground) self.old.state nodes.now untouched (is_ok result) self.new.state nodes.now }
     {
-        require(has_nodes(&self.state, nodes), Refusal::TooFewNodes)?;
+        self.require_nodes(nodes)?;
         self.state
             .join(self.ground.roads.places(), van, place, time)
     }
@@ -31,7 +30,7 @@ impl<'a, R: Roads, S: Stowage> Dispatcher<'a, R, S> {
         ensures state { Changes (with_nodes self.old.state (length nodes.now) (leave_call self.old.state van)) self.old.state self.new.state result }
         ensures nodes { Writes (rules_of R.Roads S.Stowage self.old.ground) self.old.state nodes.now untouched (is_ok result) self.new.state nodes.now }
     {
-        require(has_nodes(&self.state, nodes), Refusal::TooFewNodes)?;
+        self.require_nodes(nodes)?;
         self.state.leave(van)
     }
 
@@ -47,28 +46,28 @@ impl<'a, R: Roads, S: Stowage> Dispatcher<'a, R, S> {
         ensures state { Changes (with_nodes self.old.state (length nodes.old) (bound_call self.old.state (R.Roads.places self.old.ground.roads.now) (R.Roads.trip self.old.ground.roads.now) van place time)) self.old.state self.new.state result }
         ensures nodes { Writes (rules_of R.Roads S.Stowage self.old.ground) self.old.state nodes.old (one_van van) (is_ok result) self.new.state nodes.new }
     {
-        require(has_nodes(&self.state, nodes), Refusal::TooFewNodes)?;
+        self.require_nodes(nodes)?;
         self.state.bound(self.ground.roads, van, place, time)?;
-        prune_moved(self.ground, &self.state, nodes, van);
+        self.prune_moved(nodes, van);
         Ok(())
     }
 
-    /// A van has served the next stop of a booking: tells 0 for a pickup or 1 for a drop-off, the seconds late, and the road
-    /// seconds over the ride limit. On time and within the limit its tree is what stood below that stop; else it grows anew.
+    /// A van has served the next stop of a booking: tells the kind of the stop, the seconds late, and the road seconds over
+    /// the ride limit. On time and within the limit its tree is what stood below that stop; else it grows anew.
     pub fn served(
         &mut self,
         nodes: &mut [Node],
         van: u32,
         number: u32,
         time: u32,
-    ) -> Result<(u32, u32, u32), Refusal>
+    ) -> Result<(StopKind, u32, u32), Refusal>
         ensures ground { self.new.ground ≡ self.old.ground }
         ensures state { Acts (with_nodes self.old.state (length nodes.old) (served_call (rules_of R.Roads S.Stowage self.old.ground) self.old.state van number time)) self.old.state self.new.state result }
         ensures nodes { Writes (rules_of R.Roads S.Stowage self.old.ground) self.old.state nodes.old (one_van van) (is_ok result) self.new.state nodes.new }
     {
-        require(has_nodes(&self.state, nodes), Refusal::TooFewNodes)?;
+        self.require_nodes(nodes)?;
         let (kind, late, over) = self.state.served(self.ground, van, number, time)?;
-        follow_service(self.ground, &self.state, nodes, van, number, late, over);
+        self.follow_service(nodes, van, number, late, over);
         Ok((kind, late, over))
     }
 
@@ -78,18 +77,10 @@ impl<'a, R: Roads, S: Stowage> Dispatcher<'a, R, S> {
         ensures state { Changes (with_nodes self.old.state (length nodes.old) (cancel_call self.old.state number)) self.old.state self.new.state result }
         ensures nodes { Writes (rules_of R.Roads S.Stowage self.old.ground) self.old.state nodes.old (holding_van self.old.state number) (is_ok result) self.new.state nodes.new }
     {
-        require(has_nodes(&self.state, nodes), Refusal::TooFewNodes)?;
-        let Some((i, _)) = holder(self.state.vans, number) else {
-            return Err(Refusal::NotOpen);
-        };
+        self.require_nodes(nodes)?;
+        let (i, _) = self.state.holder(number).ok_or(Refusal::NotOpen)?;
         self.state.cancel(number)?;
-        renew(
-            self.ground,
-            &self.state,
-            nodes,
-            i as u32 + 1,
-            Fresh::Everybody,
-        );
+        self.renew(nodes, i as u32 + 1, Fresh::Everybody);
         Ok(())
     }
 }

@@ -7,54 +7,44 @@ ghost use Rattle.outcomes.specs.Settled.{needed, waits, waiting_vans, Writes, Pr
 ghost use Rattle.outcomes.specs.Outcomes.{with_nodes};
 
 use crate::Dispatcher;
-use crate::memory::{has_nodes, renew};
-use fleet::{Refusal, State, Van, require};
-use growth::{Fresh, Ground};
+use fleet::{Refusal, State, Van};
+use growth::Fresh;
 use orders::Node;
 use roads::Roads;
 use stowage::Stowage;
 
 /// Whether a van on duty has a time below this one, and a tree that can change.
-fn is_waiting(van: Option<Van>, time: u32) -> bool
-    ensures { result ≡ waits time van }
+fn is_waiting(slot: Option<Van>, time: u32) -> bool
+    ensures { result ≡ waits time slot }
 {
-    match van {
-        Some(w) => w.second < time && w.open_count() > 0,
-        None => false,
-    }
-}
-
-/// The slabs of the vans that waited follow the clock from the state before to the state after.
-fn prune_waiting<R: Roads, S: Stowage>(
-    ground: Ground<R, S>,
-    before: &State,
-    after: &State,
-    nodes: &mut [Node],
-    time: u32,
-)
-    requires sound { is_sound before.now ≡ true }
-    requires moved { clock_call before.now time ≡ Ok after.now }
-    requires room { needed before.now ≤ length nodes.old }
-    ensures { PrunedTo (rules_of R.Roads S.Stowage ground.entry) before.now after.now time nodes.old before.now.size nodes.new }
-{
-    for i in 0..before.size {
-        if is_waiting(before.vans[i as usize], time) {
-            renew(ground, after, nodes, i + 1, Fresh::Nobody);
-        }
-    }
+    slot.is_some_and(|van| van.second < time && van.open_count() > 0)
 }
 
 impl<'a, R: Roads, S: Stowage> Dispatcher<'a, R, S> {
+    /// The slabs of the vans that waited follow the clock, from the state before.
+    fn prune_waiting(&self, before: &State, nodes: &mut [Node], time: u32)
+        requires sound { is_sound before.now ≡ true }
+        requires moved { clock_call before.now time ≡ Ok self.now.state }
+        requires room { needed before.now ≤ length nodes.old }
+        ensures { PrunedTo (rules_of R.Roads S.Stowage self.now.ground) before.now self.now.state time nodes.old before.now.size nodes.new }
+    {
+        for (i, slot) in before.vans[..before.size as usize].iter().enumerate() {
+            if is_waiting(*slot, time) {
+                self.renew(nodes, i as u32 + 1, Fresh::Nobody);
+            }
+        }
+    }
+
     /// The clock moves on to this time.
     pub fn clock(&mut self, nodes: &mut [Node], time: u32) -> Result<(), Refusal>
         ensures ground { self.new.ground ≡ self.old.ground }
         ensures state { Changes (with_nodes self.old.state (length nodes.old) (clock_call self.old.state time)) self.old.state self.new.state result }
         ensures nodes { Writes (rules_of R.Roads S.Stowage self.old.ground) self.old.state nodes.old (waiting_vans self.old.state time) (is_ok result) self.new.state nodes.new }
     {
-        require(has_nodes(&self.state, nodes), Refusal::TooFewNodes)?;
+        self.require_nodes(nodes)?;
         let before = self.state;
         self.state.clock(time)?;
-        prune_waiting(self.ground, &before, &self.state, nodes, time);
+        self.prune_waiting(&before, nodes, time);
         Ok(())
     }
 }

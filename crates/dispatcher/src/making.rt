@@ -1,15 +1,16 @@
 //! How a dispatcher is made.
 ghost use Rattle.std.specs.Prelude.{◌≡◌, ◌+◌, ◌*◌, ◌&&◌, leb, length, if◌then◌else◌, Err, MatchResult, nat_le};
 ghost use Rattle.orders.specs.Slabs.{slab_size};
+ghost use Rattle.van_slab.specs.Limits.{open_limit};
 ghost use Rattle.growth.specs.Grounds.{rules_of};
 ghost use Rattle.outcomes.specs.Outcomes.{make_call, Made};
 
 use crate::Dispatcher;
-use fleet::{Refusal, State, require};
+use fleet::{Refusal, State};
 use growth::{Ground, clear};
 use orders::Node;
 use roads::Roads;
-use stowage::Stowage;
+use stowage::{Stowage, require};
 use van_slab::OpenLimit;
 
 /// The most vans.
@@ -22,16 +23,20 @@ fn is_van_count(vans: u32) -> bool
     1 <= vans && vans <= MOST_VANS
 }
 
+/// How many nodes so many vans need: one slab for each van and one more.
+pub(crate) fn node_count(vans: u32, limit: OpenLimit) -> usize
+    ensures { result ≡ (vans + 1) * slab_size (open_limit limit) }
+{
+    (vans as usize + 1) * limit.slab_size()
+}
+
 /// How many nodes a dispatcher needs: one slab for each van and one more. None where the numbers are out of range.
 pub fn nodes_needed(vans: u32, open_limit: u32) -> usize
     ensures { result ≡ (if leb 1 vans && nat_le vans 32 then (vans + 1) * slab_size open_limit else 0) }
 {
-    if !is_van_count(vans) {
-        return 0;
-    }
     match OpenLimit::new(open_limit) {
-        Some(limit) => (vans as usize + 1) * limit.slab_size(),
-        None => 0,
+        Some(limit) if is_van_count(vans) => node_count(vans, limit),
+        _ => 0,
     }
 }
 
@@ -52,7 +57,7 @@ impl<'a, R: Roads, S: Stowage> Dispatcher<'a, R, S> {
         let Some(limit) = OpenLimit::new(open_limit) else {
             return Err(Refusal::OpenLimit);
         };
-        let count = (vans as usize + 1) * limit.slab_size();
+        let count = node_count(vans, limit);
         require(count <= nodes.len(), Refusal::TooFewNodes)?;
         clear(nodes, 0, count);
         let state = State {

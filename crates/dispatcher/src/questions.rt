@@ -1,14 +1,13 @@
 //! The questions: the plan of a van, and the order at an index, read from its slab.
-ghost use Rattle.std.specs.Prelude.{◌≡◌, ◌-◌, length};
+ghost use Rattle.std.specs.Prelude.{◌≡◌, length};
 ghost use Rattle.growth.specs.Grounds.{rules_of};
 ghost use Rattle.fleet.specs.States.{open_bookings};
-ghost use Rattle.outcomes.specs.Settled.{slab_at, Settled};
+ghost use Rattle.outcomes.specs.Settled.{Settled};
 ghost use Rattle.outcomes.specs.Offers.{idle as idle_order, plan_in, order_in};
 ghost use Rattle.outcomes.specs.Outcomes.{with_nodes, plan_call, order_call, plan_read, order_read};
 
 use crate::Dispatcher;
-use crate::memory::{has_nodes, slabs_for};
-use fleet::{Refusal, Van, require};
+use fleet::{Refusal, Van};
 use orders::Node;
 use roads::Roads;
 use stowage::Stowage;
@@ -55,16 +54,9 @@ impl<'a, R: Roads, S: Stowage> Dispatcher<'a, R, S> {
         ensures read { result ≡ with_nodes self.now.state (length nodes.now) (plan_read self.now.state nodes.now van) }
         ensures settled { Settled (rules_of R.Roads S.Stowage self.now.ground) self.now.state nodes.now → result ≡ plan_call (rules_of R.Roads S.Stowage self.now.ground) self.now.state van }
     {
-        require(has_nodes(&self.state, nodes), Refusal::TooFewNodes)?;
-        require(self.state.is_van(van), Refusal::NoSuchVan)?;
-        let slot = self.state.vans[van as usize - 1];
-        let Some(w) = slot else {
-            return Err(Refusal::OffDuty);
-        };
-        let slabs = slabs_for(&self.state, van);
-        let from = slabs.own;
-        let to = from + slabs.size;
-        plan_in(w, &nodes[from..to]).ok_or(Refusal::NoOrder)
+        self.require_nodes(nodes)?;
+        let w = self.state.on_duty(van)?;
+        plan_in(w, self.slab(nodes, van)).ok_or(Refusal::NoOrder)
     }
 
     /// The valid order of a van at an index from 0, ascending.
@@ -72,15 +64,8 @@ impl<'a, R: Roads, S: Stowage> Dispatcher<'a, R, S> {
         ensures read { result ≡ with_nodes self.now.state (length nodes.now) (order_read self.now.state nodes.now van index) }
         ensures settled { Settled (rules_of R.Roads S.Stowage self.now.ground) self.now.state nodes.now → result ≡ order_call (rules_of R.Roads S.Stowage self.now.ground) self.now.state van index }
     {
-        require(has_nodes(&self.state, nodes), Refusal::TooFewNodes)?;
-        require(self.state.is_van(van), Refusal::NoSuchVan)?;
-        let slot = self.state.vans[van as usize - 1];
-        let Some(w) = slot else {
-            return Err(Refusal::OffDuty);
-        };
-        let slabs = slabs_for(&self.state, van);
-        let from = slabs.own;
-        let to = from + slabs.size;
-        order_in(w, &nodes[from..to], index).ok_or(Refusal::NoOrder)
+        self.require_nodes(nodes)?;
+        let w = self.state.on_duty(van)?;
+        order_in(w, self.slab(nodes, van), index).ok_or(Refusal::NoOrder)
     }
 }

@@ -27,8 +27,8 @@ pub fn run<R: Roads, S: Stowage>(
 {
     let mut dispatcher = Dispatcher::new(ground, vans, open_limit, nodes)?;
     let count = calls.len().min(answers.len());
-    for i in 0..count {
-        answers[i] = dispatcher.obey(nodes, calls[i]);
+    for (i, call) in calls[..count].iter().enumerate() {
+        answers[i] = dispatcher.obey(nodes, *call);
     }
     Ok(count)
 }

@@ -225,6 +225,9 @@ pub is_numbered_van : (s : State) (i : ℕ) → i < s.size → s.size ≤ 32 →
 is_numbered_van s i l m =
     and_from (leb 1 (i + 1)) _ (le-leb 1 (i + 1) (omega arith)) (and_from (leb (i + 1) s.size) _ (le-leb _ _ (omega arith)) (le-leb (i + 1) 32 (omega arith)))
 
+pub is_number_of_van : (s : State) (v : ℕ) → 1 ≤ v → v ≤ s.size → s.size ≤ 32 → States.is_van s v ≡ true
+is_number_of_van s v one l m = and_from (leb 1 v) _ (le-leb 1 v one) (and_from (leb v s.size) _ (le-leb _ _ l) (le-leb v 32 (omega arith)))
+
 -- what the calls leave as it was: how many vans there are, and how many nodes they need
 module _ (g : Rules) (s s' : State) (h : is_sound s ≡ true) where
   pub served_keeps : (v n time : ℕ) (x : States.Service) → States.served_call g s v n time ≡ Ok (s', x) → (States.is_van s' v ≡ true) × (needed s' ≡ needed s)

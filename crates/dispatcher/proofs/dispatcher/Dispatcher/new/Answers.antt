@@ -1,10 +1,8 @@
 -- A new dispatcher has a sound state, and its nodes are blank.
-use Rattle.std.proofs.Common.{◌≡◌, ◌+◌, ◌*◌, sym, refl, ap, ◌∙◌, arith}
+use Rattle.std.proofs.Common.{◌+◌, ◌*◌, sym, refl, ap, ◌∙◌, arith}
 use Rattle.std.proofs.lemmas.Bool.{leb-true}
 use Rattle.orders.specs.Slabs.{slab_size}
 use Rattle.growth.specs.Grounds.{rules_of}
-use Rattle.outcomes.specs.Settled.{needed}
-use Rattle.outcomes.specs.Outcomes.{new_state}
 use Rattle.outcomes.proofs.Acted.{passes}
 use Rattle.outcomes.proofs.Starts.{new_sound, new_made}
 use Rattle.dispatcher.proofs.dispatcher.Dispatcher.new.Goals as goal
@@ -15,8 +13,7 @@ invariant_of-result g c =
 
 pub returns : goal.returns
 returns g c =
-    let same = c.slab_size.ensures ∙ ap slab_size c.in-Some.ensures.same in
-    let count : (c.args.vans + 1) * c.slab_size.result ≡ needed (new_state c.args.vans c.args.open_limit) = ap (λ n. (c.args.vans + 1) * n) same in
+    let count = c.node_count-count.ensures ∙ ap (λ n. (c.args.vans + 1) * slab_size n) c.in-Some.ensures.same in
     let room = leb-true _ _ (passes _ _ _ c.in_ok-require-2.ensures) in (
       refl,
       new_made c.args.vans c.args.open_limit (sym c.is_van_count.ensures ∙ passes _ _ _ c.in_ok-require.ensures) c.in-Some.ensures.sound

@@ -1,22 +1,22 @@
--- The van's tree grows in its slab.
+-- The van's tree grows in its slab, along what stood below the stop.
 use Rattle.std.proofs.Common.{◌-◌}
 use Rattle.orders.specs.Laws.{below_root}
 use Rattle.growth.specs.declared.guide.Fresh.TheVariants.{Nobody}
 use Rattle.growth.specs.Grounds.{rules_of}
 use Rattle.outcomes.specs.Settled.{slab_at}
 use Rattle.outcomes.proofs.Written.{ready, regrown_from, regrown_at}
-use Rattle.dispatcher.proofs.memory.renew_below.Goals as goal
+use Rattle.dispatcher.proofs.dispatcher.Dispatcher.renew_below.Goals as goal
 
 pub prune-requires : goal.prune-requires
 prune-requires g c =
-    let all = ready c.args.state.now c.requires.sound c.args.van c.requires.within c.in-Some.w c.in-Some.is c.args.nodes.now c.requires.room
-    c.slabs_for-slabs.result c.position.result c.slabs_for-slabs.ensures c.position.ensures in
+    let all = ready c.args.self.now.state c.args.self.now.sound c.args.van c.requires.within c.in-Some.w c.in-Some.is c.args.nodes.now c.requires.room
+    c.slabs.result c.position.result c.slabs.ensures c.position.ensures in
     record { sound = all.0; laid = all.1; roomy = all.2 }
 
 pub returns-in-Some : goal.returns-in-Some
 returns-in-Some g c w e =
-    let s = c.args.state.now in
-    let rules = rules_of g.R.Roads g.S.Stowage c.args.ground in
+    let s = c.args.self.now.state in
+    let rules = rules_of g.R.Roads g.S.Stowage c.args.self.now.ground in
     regrown_at rules s (c.args.van - 1) Nobody (below_root c.args.booking (slab_at s c.args.nodes.now (c.args.van - 1))) _ c.in-Some.w w c.args.nodes.now c.prune.new.nodes c.in-Some.is e
     (regrown_from rules s Nobody (below_root c.args.booking) c.args.nodes.now c.prune.new.nodes (c.args.van - 1)
-    c.slabs_for-slabs.result c.position.result c.in-Some.w c.slabs_for-slabs.ensures c.position.ensures c.prune.ensures.replaced c.prune.ensures.exact)
+    c.slabs.result c.position.result c.in-Some.w c.slabs.ensures c.position.ensures c.prune.ensures.replaced c.prune.ensures.exact)
