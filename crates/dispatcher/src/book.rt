@@ -81,7 +81,7 @@ impl<'a, R: Roads, S: Stowage> Dispatcher<'a, R, S> {
         requires new { holder_of (number_of booking) 0 self.now.state.vans ≡ None }
         ensures { result ≡ read_bid (rules_of R.Roads S.Stowage self.now.ground) self.now.state booking (slab_at self.now.state nodes.now (van - 1)) (van_at self.now.state van) }
     {
-        let w = self.state.vans[van as usize - 1]?;
+        let w = self.state.van(van)?;
         if w.open_count() >= self.state.open_limit {
             return None;
         }
@@ -111,7 +111,7 @@ impl<'a, R: Roads, S: Stowage> Dispatcher<'a, R, S> {
         requires room { needed self.now.state ≤ length nodes.now }
         ensures { result ≡ told_plan self.now.state nodes.now van }
     {
-        let w = self.state.vans[van as usize - 1]?;
+        let w = self.state.van(van)?;
         plan_in(w, self.slab(nodes, van))
     }
 

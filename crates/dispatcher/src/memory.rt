@@ -20,6 +20,8 @@ use roads::Roads;
 use stowage::{Stowage, require};
 use van_slab::OpenLimit;
 
+// Kept: that there are nodes enough is a fact of the state and of nodes that each call is lent; a type for both would borrow
+// the dispatcher while its state changes.
 impl<'a, R: Roads, S: Stowage> Dispatcher<'a, R, S> {
     /// The open limit.
     fn limit(&self) -> OpenLimit
@@ -61,7 +63,7 @@ impl<'a, R: Roads, S: Stowage> Dispatcher<'a, R, S> {
         requires room { needed self.now.state ≤ length nodes.old }
         ensures { (w : OnDuty) → van_at self.now.state van ≡ Some w → Regrown (rules_of R.Roads S.Stowage self.now.ground) self.now.state (van - 1) fresh (slab_at self.now.state nodes.old (van - 1)) w nodes.old nodes.new }
     {
-        if let Some(w) = self.state.vans[van as usize - 1] {
+        if let Some(w) = self.state.van(van) {
             let _ = regrow(self.ground, nodes, self.slabs(van), w.position(), fresh);
         }
     }
@@ -72,7 +74,7 @@ impl<'a, R: Roads, S: Stowage> Dispatcher<'a, R, S> {
         requires room { needed self.now.state ≤ length nodes.old }
         ensures { (w : OnDuty) → van_at self.now.state van ≡ Some w → RegrownIf (rules_of R.Roads S.Stowage self.now.ground) self.now.state (van - 1) (has_tree w) w nodes.old nodes.new }
     {
-        if let Some(w) = self.state.vans[van as usize - 1] {
+        if let Some(w) = self.state.van(van) {
             if w.open_count() > 0 {
                 self.renew(nodes, van, Fresh::Nobody);
             }
@@ -85,7 +87,7 @@ impl<'a, R: Roads, S: Stowage> Dispatcher<'a, R, S> {
         requires room { needed self.now.state ≤ length nodes.old }
         ensures { (w : OnDuty) → van_at self.now.state van ≡ Some w → Regrown (rules_of R.Roads S.Stowage self.now.ground) self.now.state (van - 1) Nobody (below_root booking (slab_at self.now.state nodes.old (van - 1))) w nodes.old nodes.new }
     {
-        if let Some(w) = self.state.vans[van as usize - 1] {
+        if let Some(w) = self.state.van(van) {
             let _ = prune(self.ground, nodes, self.slabs(van), w.position(), booking);
         }
     }
@@ -95,7 +97,7 @@ impl<'a, R: Roads, S: Stowage> Dispatcher<'a, R, S> {
         requires { is_van self.now.state van ≡ true }
         ensures { (w : OnDuty) → van_at self.now.state van ≡ Some w → result ≡ nat_lt w.place (R.Roads.places self.now.ground.roads.now) }
     {
-        match self.state.vans[van as usize - 1] {
+        match self.state.van(van) {
             Some(w) => w.place < self.ground.roads.places(),
             None => false,
         }

@@ -66,11 +66,9 @@ impl State {
         requires within { is_van self.old van ≡ true }
         ensures { self.new ≡ taken self.old van booking }
     {
-        let i = van as usize - 1;
-        let slot = self.vans[i];
-        if let Some(w) = slot {
+        if let Some(w) = self.van(van) {
             if w.open_count() < self.open_limit {
-                self.vans[i] = Some(w.taking(booking));
+                self.put(van, Some(w.taking(booking)));
             }
         }
     }

@@ -1,6 +1,6 @@
 //! The present state.
 ghost use Rattle.std.specs.Prelude.{◌≡◌, ◌<◌, true, map, length, IfSome, Some};
-ghost use Rattle.fleet.specs.States.{open_bookings, position_of, is_van, on_duty, with_van, open_on, holder_of, waited, clock_call, join_call, leave_call, bound_call, cancel_call, Changes};
+ghost use Rattle.fleet.specs.States.{open_bookings, position_of, is_van, van_at, on_duty, with_van, open_on, holder_of, waited, clock_call, join_call, leave_call, bound_call, cancel_call, Changes};
 ghost use Rattle.fleet.specs.Sound.{Sound};
 
 use crate::Refusal;
@@ -17,12 +17,16 @@ pub struct Van {
     pub place: u32,
     pub second: u32,
     pub driven: u32,
+    // Kept: four places in fixed memory, so that equal states are equal values.
     pub bookings: [Option<Booking>; 4],
 }
 
 /// The present state: so many vans, by number from 1, none where one is off duty.
+// Kept: this is the plain record in which the calls are defined; were it sound by a ghost field, each definition of what a call
+// changes would carry a proof. The dispatcher above has that field.
 #[derive(Clone, Copy)]
 pub struct State {
+    // Kept: the vans stand in fixed memory, the places beyond their number unused.
     pub size: u32,
     pub open_limit: u32,
     pub clock: u32,
@@ -60,12 +64,19 @@ impl State {
         1 <= van && van <= self.size && van <= 32
     }
 
+    /// The van of that number, if it is on duty.
+    pub fn van(&self, number: u32) -> Option<Van>
+        ensures { result ≡ van_at self.now number }
+    {
+        *self.vans.get((number as usize).saturating_sub(1))?
+    }
+
     /// The van of that number, which has to be on duty.
     pub fn on_duty(&self, van: u32) -> Result<Van, Refusal>
         ensures { result ≡ on_duty self.now van }
     {
         require(self.is_van(van), Refusal::NoSuchVan)?;
-        self.vans[van as usize - 1].ok_or(Refusal::OffDuty)
+        self.van(van).ok_or(Refusal::OffDuty)
     }
 
     /// Another van, or none, takes the place of that number.
@@ -101,7 +112,7 @@ impl State {
         ensures { Changes (join_call self.old places van place time) self.old self.new result }
     {
         require(self.is_van(van), Refusal::NoSuchVan)?;
-        require(self.vans[van as usize - 1].is_none(), Refusal::OnDuty)?;
+        require(self.van(van).is_none(), Refusal::OnDuty)?;
         require(place < places, Refusal::NoSuchPlace { place })?;
         require(time <= WEEK, Refusal::BeyondWeek)?;
         require(self.clock <= time, Refusal::TooEarly)?;

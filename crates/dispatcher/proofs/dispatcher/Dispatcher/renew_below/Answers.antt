@@ -1,5 +1,5 @@
 -- The van's tree grows in its slab, along what stood below the stop.
-use Rattle.std.proofs.Common.{◌-◌}
+use Rattle.std.proofs.Common.{◌-◌, sym, ◌∙◌}
 use Rattle.orders.specs.Laws.{below_root}
 use Rattle.growth.specs.declared.guide.Fresh.TheVariants.{Nobody}
 use Rattle.growth.specs.Grounds.{rules_of}
@@ -9,7 +9,7 @@ use Rattle.dispatcher.proofs.dispatcher.Dispatcher.renew_below.Goals as goal
 
 pub prune-requires : goal.prune-requires
 prune-requires g c =
-    let all = ready c.args.self.now.state c.args.self.now.sound c.args.van c.requires.within c.in-Some.w c.in-Some.is c.args.nodes.now c.requires.room
+    let all = ready c.args.self.now.state c.args.self.now.sound c.args.van c.requires.within c.in-Some.w (sym c.van.ensures ∙ c.in-Some.is) c.args.nodes.now c.requires.room
     c.slabs.result c.position.result c.slabs.ensures c.position.ensures in
     record { sound = all.0; laid = all.1; roomy = all.2 }
 
@@ -17,6 +17,6 @@ pub returns-in-Some : goal.returns-in-Some
 returns-in-Some g c w e =
     let s = c.args.self.now.state in
     let rules = rules_of g.R.Roads g.S.Stowage c.args.self.now.ground in
-    regrown_at rules s (c.args.van - 1) Nobody (below_root c.args.booking (slab_at s c.args.nodes.now (c.args.van - 1))) _ c.in-Some.w w c.args.nodes.now c.prune.new.nodes c.in-Some.is e
+    regrown_at rules s (c.args.van - 1) Nobody (below_root c.args.booking (slab_at s c.args.nodes.now (c.args.van - 1))) _ c.in-Some.w w c.args.nodes.now c.prune.new.nodes (sym c.van.ensures ∙ c.in-Some.is) e
     (regrown_from rules s Nobody (below_root c.args.booking) c.args.nodes.now c.prune.new.nodes (c.args.van - 1)
     c.slabs.result c.position.result c.in-Some.w c.slabs.ensures c.position.ensures c.prune.ensures.replaced c.prune.ensures.exact)
