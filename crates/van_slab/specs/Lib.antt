@@ -3,4 +3,3 @@ pub mod Limits
 pub mod Trails
 pub mod Laws
 pub mod Equality
-pub mod EqualityLemmas

@@ -3,10 +3,8 @@
 
 ghost use Rattle.std.specs.Prelude.{◌≡◌, Decides};
 ghost use Rattle.orders.specs.Rules.{rules};
-ghost use Rattle.van_slab.specs.Laws.{ExactReading, BoundedReading};
-ghost use Rattle.std.specs.Cmp.{partial_equiv_from_equiv};
 ghost use Rattle.van_slab.specs.Equality.{same_itinerary};
-ghost use Rattle.van_slab.specs.EqualityLemmas.{same_itinerary_laws};
+ghost use Rattle.van_slab.specs.Laws.{ExactReading, BoundedReading};
 
 use roads::Roads;
 use stowage::Stowage;
@@ -27,32 +25,19 @@ pub struct Visit {
 }
 
 /// An order as a van drives it: its cost, how many stops it has, and these in turn; visits that are not used are all zeros.
-#[derive(Clone, Copy, Debug)]
+#[derive(Clone, Copy, PartialEq, Eq, Debug)]
 pub struct Itinerary {
     pub cost: u32,
     pub stops: u32,
     pub visits: [Visit; 8],
 }
 
-/// Itineraries are equal where all their parts are.
-impl PartialEq for Itinerary {
-    ghost eq = { same_itinerary };
-
-    ghost laws = { partial_equiv_from_equiv same_itinerary_laws };
-
-    fn eq(&self, other: &Itinerary) -> bool
-        ensures test { result ≡ same_itinerary self.now other.now }
-        ensures decides { Decides result (self.now ≡ other.now) }
-    {
-        if self.cost != other.cost || self.stops != other.stops {
-            return false;
-        }
-        self.visits == other.visits
-    }
-}
-
-impl Eq for Itinerary {
-    ghost laws = { same_itinerary_laws };
+/// Whether two itineraries tell the same: all their parts are equal.
+pub fn is_same(itinerary: &Itinerary, other: &Itinerary) -> bool
+    ensures test { result ≡ same_itinerary itinerary.now other.now }
+    ensures decides { Decides result (itinerary.now ≡ other.now) }
+{
+    itinerary == other
 }
 
 /// A slab that holds the tree of a van with one to four open bookings lists just the van's valid orders, and each as it is
