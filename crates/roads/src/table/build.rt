@@ -45,10 +45,6 @@ impl Roads for RoadTable {
     }
 
     fn seconds(&self, from: u32, to: u32) -> Option<u32> {
-        if from < self.places && to < self.places {
-            Some(self.square().trip(from, to))
-        } else {
-            None
-        }
+        (from < self.places && to < self.places).then(|| self.square().trip(from, to))
     }
 }
