@@ -1,7 +1,6 @@
 -- Shows that a line is parted at its commas into its fields, and in no other way.
-use Rattle.std.proofs.Common.{◌≡◌, ℕ, ◌+◌, ◌<◌, true, false, cond, eqb, ◌≢◌, List, [], ◌∷◌, ◌++◌, length, get_or, drop, sym, refl, ap, ◌∙◌, arith}
-use Rattle.std.proofs.lemmas.List.{at_drop_more}
-use Rattle.std.proofs.lemmas.Bool.{cond-true, cond-false, eq-eqb, ne_eqb, eqb-true, eqb-false}
+use Rattle.std.proofs.Common.{◌≡◌, ℕ, true, false, cond, eqb, ◌≢◌, List, [], ◌∷◌, ◌++◌, length, sym, refl, ap, ◌∙◌, arith}
+use Rattle.std.proofs.lemmas.Bool.{cond-false, ne_eqb, eqb-true, eqb-false}
 use Rattle.std.specs.List.{AllByRecursion, onto_first}
 use Rattle.text.specs.Fields.{comma, fields, after_commas, comma_joined, Parted, PartsOneWay}
 use Rattle.text.proofs.Splits.{first_and_rest}
@@ -62,22 +61,3 @@ parts_one_way line =
       parted = record { some = fields_some line; joins = fields_join line; comma_free = fields_free line };
       only = fields_only line;
     }
-
-length_onto : (b : ℕ) (fs : List (List ℕ)) → fs ≢ [] → length (onto_first b fs) ≡ length fs
-length_onto b [] some = absurd (some refl)
-length_onto b (f ∷ fs) some = refl
-
--- From a comma on there is one field more than after it, and from any other byte on there are as many.
-module _ (line : List ℕ) (i : ℕ) (within : i < length line) where
-  pub more_at_comma : get_or line i 0 ≡ comma → length (fields (drop i line)) ≡ length (fields (drop (i + 1) line)) + 1
-  more_at_comma is =
-      let split : fields (drop i line) ≡ [] ∷ fields (drop (i + 1) line) =
-      at_drop_more fields line i 0 within ∙ cond-true _ _ _ (eq-eqb _ comma is) in
-      omega (arith, ap length split)
-
-  pub same_at_other : (get_or line i 0 ≡ comma → ⊥) → length (fields (drop i line)) ≡ length (fields (drop (i + 1) line))
-  same_at_other other =
-      let after = drop (i + 1) line in
-      let split : fields (drop i line) ≡ onto_first (get_or line i 0) (fields after) =
-      at_drop_more fields line i 0 within ∙ cond-false _ _ _ (ne_eqb _ comma other) in
-      ap length split ∙ length_onto (get_or line i 0) (fields after) (fields_some after)
