@@ -58,8 +58,7 @@ impl Booking {
         ensures { result ≡ number_of self }
     {
         match self {
-            Booking::Waiting { journey, .. } => journey.number,
-            Booking::Aboard { journey, .. } => journey.number,
+            Booking::Waiting { journey, .. } | Booking::Aboard { journey, .. } => journey.number,
         }
     }
 
@@ -86,9 +85,10 @@ impl Booking {
 
 /// A stop in a tree: its booking, 0 for a pickup or 1 for a drop-off, its depth from 1, the number of nodes that are it
 /// or stand below it, its second of service and the cost so far. A blank node is all zeros.
-#[derive(Clone, Copy, PartialEq, Eq, Debug)]
+#[derive(Clone, Copy, PartialEq, Eq, Default, Debug)]
 pub struct Node {
     pub booking: u32,
+    // Kept: node memory may hold anything, so the kind is a number.
     pub kind: u32,
     pub depth: u32,
     pub span: u32,

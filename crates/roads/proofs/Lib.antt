@@ -1,3 +1,3 @@
 -- Declares the lemmas that the proofs share.
 pub mod Tables
-mod TableFaults
+pub mod TableFaults

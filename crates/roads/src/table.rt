@@ -3,7 +3,7 @@ ghost use Rattle.std.specs.Prelude.{◌≡◌, ℕ, ◌+◌, ◌*◌, ◌<◌, �
 ghost use Rattle.roads.specs.Tables.{table_trip};
 
 mod build;
-mod checks;
+mod square;
 
 /// The seconds from each place to each, row by row.
 #[derive(Drop)]

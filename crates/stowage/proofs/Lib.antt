@@ -1,1 +1,2 @@
+-- Declares the lemmas that the proofs share.
 pub mod Together

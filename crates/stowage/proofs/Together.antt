@@ -1,10 +1,11 @@
 -- By exchange, loads that fit together fit in any order, to the same hold, and any part of them fits.
 use Rattle.std.proofs.Common.{◌≡◌, ℕ, ◌+◌, ◌<◌, ◌≤◌, true, List, [], ◌∷◌, ◌++◌, length, get_or, drop, is_some, Some, None, Option, sym, refl, ap, ◌∙◌, subst, add-one, drop-cons}
 use Rattle.std.proofs.lemmas.List.{drop_all}
+use Rattle.std.proofs.lemmas.Option.{none-some}
 use Rattle.stowage.specs.declared.Load.{Load}
 use Rattle.stowage.specs.Laws.{Exchange}
 use Rattle.stowage.specs.Together.{then_stow, onward, stowed, Shuffle, same, below, swap, further, Part, none, without, keeping, StowsAll}
-use Rattle.stowage.specs.Options.{none_some, same_answers}
+use Rattle.stowage.specs.Options.{same_answers}
 
 -- the first of some loads, stowed last
 to_the_end : {X : Type 0} (x : X) (xs : List X) → Shuffle (x ∷ xs) (xs ++ x ∷ [])
@@ -42,7 +43,7 @@ module _ {Hold : Type 0} (stow : Hold → Load → Option Hold) where
 
   module _ (exchange : Exchange stow) where
     swap_some : (h : Hold) (a b : Load) (o : Option Hold) → stow h a ≡ o → (y : Hold) → then_stow stow o b ≡ Some y → then_stow stow (stow h b) a ≡ Some y
-    swap_some h a b None e y f = absurd (none_some f)
+    swap_some h a b None e y f = absurd (none-some y f)
     swap_some h a b (Some x) e y f =
         let s = exchange h x y a b e f in
         ap (λ o. then_stow stow o a) s.1 ∙ s.2

@@ -2,6 +2,7 @@
 use Rattle.std.specs.Prelude.{◌≡◌, ℕ, ◌+◌, ◌*◌, ◌≤◌, min, Bool, true, false, List, [], ◌∷◌, Ok, Err, Result, refl}
 use Rattle.std.proofs.Common.{subst, mul-le-mul_left, arith}
 use Rattle.std.proofs.lemmas.Bool.{leb-true, and_parts}
+use Rattle.std.specs.List.{AllByRecursion}
 use Rattle.stowage.specs.declared.BadFigure.{BadFigure}
 use Rattle.stowage.specs.declared.Promise.{Promise}
 use Rattle.stowage.specs.Figures.{week, figure, judged}
@@ -9,12 +10,7 @@ use Rattle.stowage.specs.Laws.{Kept, Keeps}
 use Rattle.stowage.specs.Parcels.{parcel_tests, parcel_promise}
 use Rattle.stowage.specs.Passengers.{passenger_tests, passenger_promise}
 
--- every test passes
-abbrev All : List Bool → Type 0
-All [] = Unit {0}
-All (b ∷ bs) = (b ≡ true) × All bs
-
-judged_ok : (i : ℕ) (tests : List Bool) (q p : Promise) → judged i tests q ≡ Ok p → All tests × (q ≡ p)
+judged_ok : (i : ℕ) (tests : List Bool) (q p : Promise) → judged i tests q ≡ Ok p → AllByRecursion (λ b. b ≡ true) tests × (q ≡ p)
 judged_ok i [] q p e = (tt, let e' : ◌≡◌ {A = Result Promise BadFigure} (Ok q) (Ok p) = e in cc)
 judged_ok i (true ∷ tests) q p e = let s = judged_ok (i + 1) tests q p e in ((refl, s.0), s.1)
 judged_ok i (false ∷ tests) q p e =

@@ -1,3 +1,4 @@
+-- Declares the definitions that the contracts cite.
 pub mod Limits
 pub mod Figures
 pub mod Laws

@@ -1,10 +1,8 @@
 -- An answer is there or not, and what follows from either.
-use Rattle.std.specs.Prelude.{◌≡◌, ℕ, Bool, true, false, T, Some, None, Option, ◌≢◌, refl}
-use Rattle.std.proofs.Common.{sym, arith}
+use Rattle.std.specs.Prelude.{◌≡◌, Bool, true, false, T, Some, None, Option, refl}
+use Rattle.std.proofs.Common.{sym}
+use Rattle.std.proofs.lemmas.Option.{none-some}
 use Rattle.stowage.specs.Figures.{when}
-
-pub none_some : {X : Type 0} {x : X} → None ≢ Some x
-none_some e = let z : ◌≡◌ {A = ℕ} 0 1 = cc in omega arith
 
 -- two answers that have the same values are equal
 pub same_answers : {X : Type 0} (o p : Option X) → ((x : X) → o ≡ Some x → p ≡ Some x) → ((x : X) → p ≡ Some x → o ≡ Some x) → o ≡ p
@@ -19,4 +17,4 @@ when_so false t make = absurd t
 
 pub when_some : {X : Type 0} (b : Bool) (make : T b → X) (x : X) → when b make ≡ Some x → (t : T b) × (make t ≡ x)
 when_some true make x e = (tt, let e' : Some (make tt) ≡ Some x = e in cc)
-when_some false make x e = absurd (none_some e)
+when_some false make x e = absurd (none-some x e)

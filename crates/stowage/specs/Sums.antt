@@ -1,6 +1,7 @@
 -- A hold of two sums, limited by a test that less never fails, keeps the law of exchange.
 use Rattle.std.specs.Prelude.{◌≡◌, ℕ, ◌+◌, ◌*◌, ◌≤◌, Bool, true, false, T, Option, nat_le, refl}
 use Rattle.std.proofs.Common.{sym, ap, ◌∙◌, arith}
+use Rattle.std.proofs.lemmas.Float.{T_from_true}
 use Rattle.std.proofs.lemmas.Bool.{le-leb, leb-true, and_parts, and_from}
 use Rattle.stowage.specs.Figures.{when}
 use Rattle.stowage.specs.Laws.{Exchange}
@@ -36,20 +37,16 @@ true_from : (b : Bool) → T b → b ≡ true
 true_from true t = refl
 true_from false t = absurd t
 
-holds : (b : Bool) → b ≡ true → T b
-holds true e = tt
-holds false e = let z : ◌≡◌ {A = ℕ} 0 1 = cc in absurd (omega arith)
-
 pub seating_falls : Falls seating_room
 seating_falls a b c d h k t =
     let s = and_parts (nat_le (c + 2 * d) 8) (nat_le d 2) (true_from _ t) in
     let seats = leb-true (c + 2 * d) 8 s.0 in
     let wheelchairs = leb-true d 2 s.1 in
-    holds _ (and_from _ _ (le-leb (a + 2 * b) 8 (omega arith)) (le-leb b 2 (omega arith)))
+    T_from_true _ (and_from _ _ (le-leb (a + 2 * b) 8 (omega arith)) (le-leb b 2 (omega arith)))
 
 pub cargo_falls : Falls cargo_room
 cargo_falls a b c d h k t =
     let s = and_parts (nat_le c 6000) (nat_le d 900) (true_from _ t) in
     let litres = leb-true c 6000 s.0 in
     let kilograms = leb-true d 900 s.1 in
-    holds _ (and_from _ _ (le-leb a 6000 (omega arith)) (le-leb b 900 (omega arith)))
+    T_from_true _ (and_from _ _ (le-leb a 6000 (omega arith)) (le-leb b 900 (omega arith)))

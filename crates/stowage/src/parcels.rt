@@ -61,8 +61,8 @@ impl Stowage for Parcels {
             drop_opens,
             drop_closes,
         ] = figures;
-        require_figure(1 <= litres && litres <= 6_000, 1)?;
-        require_figure(1 <= kilograms && kilograms <= 900, 2)?;
+        require_figure(matches!(litres, 1..=6_000), 1)?;
+        require_figure(matches!(kilograms, 1..=900), 2)?;
         require_figure(pickup_opens <= WEEK, 3)?;
         require_figure(pickup_opens <= pickup_closes && pickup_closes <= WEEK, 4)?;
         require_figure(drop_opens <= WEEK, 5)?;

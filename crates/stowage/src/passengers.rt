@@ -26,6 +26,7 @@ fn seated(seats: u32, wheelchairs: u32) -> Option<Seating>
 }
 
 /// The direct road and its detour in percent, rounded down.
+#[tactic(auto, using(crate::specs::Judged::product_bound))]
 fn ride_limit(direct: u32, percent: u32) -> u32
     requires { percent ≤ 300 }
     ensures { result ≡ ride_limit direct percent }

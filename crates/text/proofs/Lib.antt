@@ -2,3 +2,4 @@
 pub mod Splits
 pub mod Parted
 pub mod Digits
+pub mod Rows

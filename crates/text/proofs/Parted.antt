@@ -1,9 +1,8 @@
 -- Shows that a line is parted at its commas into its fields, and in no other way.
-use Rattle.std.proofs.Common.{◌≡◌, ℕ, ◌+◌, ◌<◌, true, false, cond, eqb, ◌≢◌, List, [], ◌∷◌, ◌++◌, length, get_or, drop, sym, refl, ap, ◌∙◌, arith}
-use Rattle.std.proofs.lemmas.List.{at_drop_more}
-use Rattle.std.proofs.lemmas.Bool.{cond-true, cond-false, eq-eqb, ne_eqb, eqb-true, eqb-false}
-use Rattle.std.specs.List.{AllByRecursion}
-use Rattle.text.specs.Fields.{comma, fields, grown, after_commas, comma_joined, Parted, PartsOneWay}
+use Rattle.std.proofs.Common.{◌≡◌, ℕ, true, false, cond, eqb, ◌≢◌, List, [], ◌∷◌, ◌++◌, length, sym, refl, ap, ◌∙◌, arith}
+use Rattle.std.proofs.lemmas.Bool.{cond-false, ne_eqb, eqb-true, eqb-false}
+use Rattle.std.specs.List.{AllByRecursion, onto_first}
+use Rattle.text.specs.Fields.{comma, fields, after_commas, comma_joined, Parted, PartsOneWay}
 use Rattle.text.proofs.Splits.{first_and_rest}
 
 -- Bytes with no comma among them.
@@ -13,9 +12,9 @@ Free = AllByRecursion (λ b. b ≢ comma)
 fields_some : (bs : List ℕ) → fields bs ≢ []
 fields_some bs none = omega (arith, ap length (first_and_rest bs), ap length none)
 
-joins_grown : (b : ℕ) (fs : List (List ℕ)) → comma_joined (grown b fs) ≡ b ∷ comma_joined fs
-joins_grown b [] = refl
-joins_grown b (f ∷ fs) = refl
+joins_onto : (b : ℕ) (fs : List (List ℕ)) → comma_joined (onto_first b fs) ≡ b ∷ comma_joined fs
+joins_onto b [] = refl
+joins_onto b (f ∷ fs) = refl
 
 joins_after : (fs : List (List ℕ)) → fs ≢ [] → after_commas fs ≡ comma ∷ comma_joined fs
 joins_after [] some = absurd (some refl)
@@ -24,28 +23,28 @@ joins_after (f ∷ fs) some = refl
 fields_join : (bs : List ℕ) → comma_joined (fields bs) ≡ bs
 fields_join [] = refl
 fields_join (b ∷ bs) =
-    elim (eqb b comma) as (λ t. eqb b comma ≡ t → comma_joined (cond t ([] ∷ fields bs) (grown b (fields bs))) ≡ b ∷ bs) [
+    elim (eqb b comma) as (λ t. eqb b comma ≡ t → comma_joined (cond t ([] ∷ fields bs) (onto_first b (fields bs))) ≡ b ∷ bs) [
       | true ↦ λ is. joins_after (fields bs) (fields_some bs) ∙ (λ i. sym (eqb-true b comma is) i ∷ fields_join bs i)
-      | false ↦ λ is. joins_grown b (fields bs) ∙ ap (λ l. b ∷ l) (fields_join bs)
+      | false ↦ λ is. joins_onto b (fields bs) ∙ ap (λ l. b ∷ l) (fields_join bs)
     ]
     refl
 
-free_grown : (b : ℕ) (fs : List (List ℕ)) → b ≢ comma → AllByRecursion Free fs → AllByRecursion Free (grown b fs)
-free_grown b [] other free = ((other, tt), tt)
-free_grown b (f ∷ fs) other free = ((other, free.0), free.1)
+free_onto : (b : ℕ) (fs : List (List ℕ)) → b ≢ comma → AllByRecursion Free fs → AllByRecursion Free (onto_first b fs)
+free_onto b [] other free = ((other, tt), tt)
+free_onto b (f ∷ fs) other free = ((other, free.0), free.1)
 
 fields_free : (bs : List ℕ) → AllByRecursion Free (fields bs)
 fields_free [] = (tt, tt)
 fields_free (b ∷ bs) =
-    elim (eqb b comma) as (λ t. eqb b comma ≡ t → AllByRecursion Free (cond t ([] ∷ fields bs) (grown b (fields bs))))
-    [ true ↦ λ is. (tt, fields_free bs) | false ↦ λ is. free_grown b (fields bs) (eqb-false b comma is) (fields_free bs) ]
+    elim (eqb b comma) as (λ t. eqb b comma ≡ t → AllByRecursion Free (cond t ([] ∷ fields bs) (onto_first b (fields bs))))
+    [ true ↦ λ is. (tt, fields_free bs) | false ↦ λ is. free_onto b (fields bs) (eqb-false b comma is) (fields_free bs) ]
     refl
 
 -- Bytes with no comma, put in front of a line that begins with an empty field, fill that field.
 fields_front : (f rest : List ℕ) (fs : List (List ℕ)) → Free f → fields rest ≡ [] ∷ fs → fields (f ++ rest) ≡ f ∷ fs
 fields_front [] rest fs free is = is
 fields_front (b ∷ f) rest fs free is =
-    cond-false (eqb b comma) _ _ (ne_eqb b comma free.0) ∙ ap (grown b) (fields_front f rest fs free.1 is)
+    cond-false (eqb b comma) _ _ (ne_eqb b comma free.0) ∙ ap (onto_first b) (fields_front f rest fs free.1 is)
 
 fields_after : (fs : List (List ℕ)) → AllByRecursion Free fs → fields (after_commas fs) ≡ [] ∷ fs
 fields_after [] free = refl
@@ -62,22 +61,3 @@ parts_one_way line =
       parted = record { some = fields_some line; joins = fields_join line; comma_free = fields_free line };
       only = fields_only line;
     }
-
-length_grown : (b : ℕ) (fs : List (List ℕ)) → fs ≢ [] → length (grown b fs) ≡ length fs
-length_grown b [] some = absurd (some refl)
-length_grown b (f ∷ fs) some = refl
-
--- From a comma on there is one field more than after it, and from any other byte on there are as many.
-module _ (line : List ℕ) (i : ℕ) (within : i < length line) where
-  pub more_at_comma : get_or line i 0 ≡ comma → length (fields (drop i line)) ≡ length (fields (drop (i + 1) line)) + 1
-  more_at_comma is =
-      let split : fields (drop i line) ≡ [] ∷ fields (drop (i + 1) line) =
-      at_drop_more fields line i 0 within ∙ cond-true _ _ _ (eq-eqb _ comma is) in
-      omega (arith, ap length split)
-
-  pub same_at_other : (get_or line i 0 ≡ comma → ⊥) → length (fields (drop i line)) ≡ length (fields (drop (i + 1) line))
-  same_at_other other =
-      let after = drop (i + 1) line in
-      let split : fields (drop i line) ≡ grown (get_or line i 0) (fields after) =
-      at_drop_more fields line i 0 within ∙ cond-false _ _ _ (ne_eqb _ comma other) in
-      ap length split ∙ length_grown (get_or line i 0) (fields after) (fields_some after)

@@ -1,17 +1,10 @@
 -- Shows how the first field of a line and what follows its comma lie in the line.
-use Rattle.std.proofs.Common.{◌≡◌, ℕ, ◌+◌, ◌-◌, ◌<◌, ◌≤◌, min, true, false, cond, eqb, List, [], ◌∷◌, length, get_or, take, drop, Some, None, sym, refl, ap, ◌∙◌, ⊎_elim, add-one, arith}
-use Rattle.std.proofs.lemmas.List.{at_drop_more, drop_all, take_rest}
-use Rattle.std.proofs.lemmas.Bool.{cond-true, cond-false, eq-eqb, ne_eqb, cases_lt}
-use Rattle.text.specs.Fields.{comma, field_of, rest_of, grown, fields, fields_left}
-
--- A field that begins at a comma is empty.
-pub field_at_comma : (bs : List ℕ) (i : ℕ) → i < length bs → get_or bs i 0 ≡ comma → field_of (drop i bs) ≡ []
-field_at_comma bs i within is =
-    at_drop_more field_of bs i 0 within ∙ cond-true _ _ _ (eq-eqb _ comma is)
-
--- A field that begins at any other byte is that byte and the field after it.
-pub field_at_other : (bs : List ℕ) (i : ℕ) → i < length bs → (get_or bs i 0 ≡ comma → ⊥) → field_of (drop i bs) ≡ get_or bs i 0 ∷ field_of (drop (i + 1) bs)
-field_at_other bs i within not = at_drop_more field_of bs i 0 within ∙ cond-false _ _ _ (ne_eqb _ comma not)
+use Rattle.std.proofs.Common.{◌==◌, Bool, ltb, take_all, ◌≡◌, ℕ, ◌+◌, ◌<◌, ◌≤◌, true, false, cond, eqb, List, [], ◌∷◌, length, take, drop, Some, None, sym, refl, ap, ◌∙◌, add-one, arith}
+use Rattle.std.proofs.lemmas.Bool.{ltb-true, ltb-false}
+use Rattle.std.specs.List.{onto_first, position, position_or_len}
+use Rattle.std.proofs.lemmas.List.Recursion.{is_position_or_len}
+use Rattle.std.proofs.lemmas.Option.{same_Some}
+use Rattle.text.specs.Fields.{comma, field_of, rest_of, fields, fields_left}
 
 -- The first field is the front of the line, as long as the field.
 pub field_is_front : (bs : List ℕ) → field_of bs ≡ take (length (field_of bs)) bs
@@ -44,28 +37,47 @@ no_rest (b ∷ bs) long =
 pub first_and_rest : (bs : List ℕ) → fields bs ≡ field_of bs ∷ fields_left (rest_of bs)
 first_and_rest [] = refl
 first_and_rest (b ∷ bs) =
-    elim (eqb b comma) as (λ t. cond t ([] ∷ fields bs) (grown b (fields bs)) ≡ cond t [] (b ∷ field_of bs) ∷ fields_left (cond t (Some bs) (rest_of bs)))
-    [ true ↦ refl | false ↦ ap (grown b) (first_and_rest bs) ]
+    elim (eqb b comma) as (λ t. cond t ([] ∷ fields bs) (onto_first b (fields bs)) ≡ cond t [] (b ∷ field_of bs) ∷ fields_left (cond t (Some bs) (rest_of bs)))
+    [ true ↦ refl | false ↦ ap (onto_first b) (first_and_rest bs) ]
 
--- What is left of a line from a place on is left from the nearest place within it.
-pub left_from_within : (line : List ℕ) (place start : ℕ) → start ≡ min place (length line) → take (length line - start) (drop start line) ≡ drop place line
-left_from_within line place start is =
-    take_rest line start ∙ ⊎_elim
-    (λ before. ap (λ p. drop p line) (omega arith))
-    (λ past. drop_all start line (omega arith) ∙ sym (drop_all place line past))
-    (cases_lt place (length line))
+-- The first field is as long as the place of the first comma.
+field_ends : (bs : List ℕ) → length (field_of bs) ≡ position_or_len (λ b. b == comma) bs
+field_ends = is_position_or_len (λ bs. length (field_of bs)) (λ b. b == comma) refl (λ b bs. at_byte bs b (b == comma))
+  where
+    at_byte : (bs : List ℕ) (b : ℕ) (t : Bool) → length (cond t [] (b ∷ field_of bs)) ≡ cond t 0 (1 + length (field_of bs))
+    at_byte bs b true = refl
+    at_byte bs b false = omega arith
 
--- The parts of `bytes`, which are the bytes `bs` that are left, when they are cut n bytes in, where their first field ends.
-module _ (bytes bs : List ℕ) (n : ℕ) (are : bytes ≡ bs) (ends : n ≡ length (field_of bytes)) where
-  pub cut_field : take (n - 0) bytes ≡ field_of bs
-  cut_field =
-      let end : n - 0 ≡ length (field_of bytes) = omega arith in
-      ap (λ m. take m bytes) end ∙ sym (field_is_front bytes) ∙ ap field_of are
+-- Where the first comma stands, the first field ends; without a comma it is the whole line.
+pub comma_at : (bs : List ℕ) (n : ℕ) → Some n ≡ position (λ b. b == comma) bs → (n ≡ length (field_of bs)) × (n < length bs)
+comma_at bs n is = by_test (position_or_len (λ b. b == comma) bs) (field_ends bs) (ltb (position_or_len (λ b. b == comma) bs) (length bs)) refl is
+  where
+    by_test : (p : ℕ) → length (field_of bs) ≡ p → (t : Bool) → ltb p (length bs) ≡ t → Some n ≡ cond t (Some p) None → (n ≡ length (field_of bs)) × (n < length bs)
+    by_test p e true l s = let q = same_Some n p s in (q ∙ sym e, omega (arith, ltb-true p (length bs) l))
+    by_test p e false l s = cc
 
-  pub cut_at_end : n ≡ length bytes → rest_of bs ≡ None
-  cut_at_end whole = ap rest_of (sym are) ∙ no_rest bytes (omega arith)
+pub no_comma : (bs : List ℕ) → None ≡ position (λ b. b == comma) bs → length bs ≤ length (field_of bs)
+no_comma bs is = by_test (position_or_len (λ b. b == comma) bs) (field_ends bs) (ltb (position_or_len (λ b. b == comma) bs) (length bs)) refl is
+  where
+    by_test : (p : ℕ) → length (field_of bs) ≡ p → (t : Bool) → ltb p (length bs) ≡ t → None ≡ cond t (Some p) None → length bs ≤ length (field_of bs)
+    by_test p e true l s = cc
+    by_test p e false l s = omega (arith, ltb-false p (length bs) l)
 
-  pub cut_at_comma : (n ≡ length bytes → ⊥) → rest_of bs ≡ Some (drop (n + 1) bs)
-  cut_at_comma more =
-      let short : length (field_of bytes) < length bytes = omega (arith, field_within bytes) in
-      ap rest_of (sym are) ∙ rest_past_comma bytes short ∙ (λ i. Some (drop (sym ends i + 1) (are i)))
+-- The parts of the bytes that are left, cut at their first comma if they have one.
+module _ (bytes bs : List ℕ) (are : bytes ≡ bs) where
+  module _ (none : None ≡ position (λ b. b == comma) bytes) where
+    pub whole_field : bytes ≡ field_of bs
+    whole_field = sym (field_is_front bytes ∙ take_all (length (field_of bytes)) bytes (no_comma bytes none)) ∙ ap field_of are
+
+    pub whole_rest : None ≡ rest_of bs
+    whole_rest = sym (ap rest_of (sym are) ∙ no_rest bytes (no_comma bytes none))
+
+  module _ (n : ℕ) (at : Some n ≡ position (λ b. b == comma) bytes) where
+    pub cut_field : take n bytes ≡ field_of bs
+    cut_field = ap (λ m. take m bytes) (comma_at bytes n at).0 ∙ sym (field_is_front bytes) ∙ ap field_of are
+
+    pub cut_rest : Some (drop (n + 1) bs) ≡ rest_of bs
+    cut_rest =
+        let k = comma_at bytes n at in
+        let short : length (field_of bytes) < length bytes = omega arith in
+        sym (ap rest_of (sym are) ∙ rest_past_comma bytes short ∙ (λ i. Some (drop (sym k.0 i + 1) (are i))))

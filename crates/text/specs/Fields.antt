@@ -1,6 +1,6 @@
 -- Defines how a line falls into fields at its commas. A line is the list of its bytes.
 use Rattle.std.specs.Prelude.{◌≡◌, ℕ, cond, ◌≢◌, List, [], ◌∷◌, ◌++◌, drop, Some, None, Option, ◌==◌}
-use Rattle.std.specs.List.{AllByRecursion}
+use Rattle.std.specs.List.{AllByRecursion, slice_split}
 use Rattle.text.specs.declared.Rest.{Rest}
 
 -- The byte that parts fields.
@@ -21,15 +21,9 @@ abbrev pub rest_of : List ℕ → Option (List ℕ)
 rest_of [] = None
 rest_of (b ∷ bs) = cond (b == comma) (Some bs) (rest_of bs)
 
--- The fields with a byte put in front of the first.
-abbrev pub grown : ℕ → List (List ℕ) → List (List ℕ)
-grown b [] = (b ∷ []) ∷ []
-grown b (f ∷ fs) = (b ∷ f) ∷ fs
-
 -- All fields of a line, in order: one more than it has commas.
 abbrev pub fields : List ℕ → List (List ℕ)
-fields [] = [] ∷ []
-fields (b ∷ bs) = cond (b == comma) ([] ∷ fields bs) (grown b (fields bs))
+fields line = slice_split (λ b. b == comma) line
 
 -- The fields of a rest: none where there is no rest, one or more where there is one, be it empty.
 abbrev pub fields_left : Option (List ℕ) → List (List ℕ)

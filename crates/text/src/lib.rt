@@ -1,12 +1,13 @@
 //! Lines of fields parted by commas, and the decimal numbers in them.
 #![tactic(auto)]
 
-ghost use Rattle.std.specs.Prelude.{◌≡◌, ◌+◌, ◌^◌, ◌<◌, ◌≤◌, ◌∷◌, length, IfSome, IfOk, vec_items};
+ghost use Rattle.std.specs.Prelude.{◌≡◌, ◌==◌, ◌+◌, ◌^◌, ◌∷◌, length, position, IfSome, IfOk, vec_items};
 ghost use Rattle.std.specs.Option.{option_map};
-ghost use Rattle.text.specs.Fields.{bytes_left, field_of, rest_of, fields, fields_left, PartsOneWay};
-ghost use Rattle.text.specs.Numbers.{decimal, number32, short_number, numbers_of};
+ghost use Rattle.text.specs.Fields.{comma, bytes_left, field_of, rest_of, fields, fields_left, PartsOneWay};
+ghost use Rattle.text.specs.Numbers.{all_digits, below, decimal, number32, needless_zero, short_number, numbers_of};
 
 use std::alloc::{AllocError, Global};
+use std::str;
 
 /// The byte that parts fields.
 const COMMA: u8 = b',';
@@ -45,22 +46,22 @@ impl<'a> Rest<'a> {
     pub fn bytes(self) -> &'a [u8]
         ensures { result.now ≡ bytes_left self.entry }
     {
-        let start = self.place.min(self.line.len());
-        &self.line[start..]
+        self.line.get(self.place..).unwrap_or(&[])
     }
 }
 
-/// How many bytes stand before the first comma.
-fn field_length(bytes: &[u8]) -> usize
-    ensures value { result ≡ length (field_of bytes.now) }
-    ensures bound { result ≤ length bytes.now }
+/// Whether a byte parts fields.
+fn is_comma(byte: &u8) -> bool
+    ensures { result ≡ (byte.now == comma) }
 {
-    for (i, b) in bytes.iter().enumerate() {
-        if *b == COMMA {
-            return i;
-        }
-    }
-    bytes.len()
+    *byte == COMMA
+}
+
+/// The place of the first comma.
+fn first_comma(bytes: &[u8]) -> Option<usize>
+    ensures { result ≡ position (λ b. b == comma) bytes.now }
+{
+    bytes.iter().position(is_comma)
 }
 
 /// The first field of what is left of a line, and what is left after the field's comma, if it has one.
@@ -72,17 +73,17 @@ pub fn split_field(rest: Rest<'_>) -> (Field<'_>, Option<Rest<'_>>)
     ensures fields { fields (bytes_left rest.entry) ≡ result.0.bytes.now ∷ fields_left (option_map bytes_left result.1) }
 {
     let bytes = rest.bytes();
-    let length = field_length(bytes);
-    let field = Field {
-        bytes: &bytes[0..length],
-        place: rest.place,
+    let place = rest.place;
+    let Some(length) = first_comma(bytes) else {
+        return (Field { bytes, place }, None);
     };
-    if length == bytes.len() {
-        return (field, None);
-    }
+    let field = Field {
+        bytes: &bytes[..length],
+        place,
+    };
     let next = Rest {
         line: rest.line,
-        place: rest.place + length + 1,
+        place: place + length + 1,
     };
     (field, Some(next))
 }
@@ -92,32 +93,25 @@ pub fn count_fields(line: &[u8]) -> usize
     ensures count { result ≡ length (fields line.now) }
     ensures law { PartsOneWay line.now }
 {
-    let mut count = 1;
-    for b in line {
-        if *b == COMMA {
-            count += 1;
-        }
-    }
-    count
+    line.split(is_comma).count()
 }
 
-/// The number that a field of at most 10 bytes writes in decimal digits.
-fn read_decimal(field: &[u8]) -> Option<u64>
-    requires { length field.now ≤ 10 }
-    ensures value { result ≡ decimal field.now }
-    ensures bound { IfSome result (λ n. n < 10 ^ length field.now) }
+/// Whether each byte is a digit.
+fn is_all_digits(field: &[u8]) -> bool
+    ensures { result ≡ all_digits field.now }
 {
-    if field.is_empty() {
+    field.iter().all(u8::is_ascii_digit)
+}
+
+/// The number that a field writes in decimal digits, if it fits 32 bits.
+fn read_digits(field: &[u8]) -> Option<u32>
+    ensures { result ≡ below (2 ^ 32) (decimal field.now) }
+{
+    // `parse` alone would take a sign too.
+    if !is_all_digits(field) {
         return None;
     }
-    let mut value: u64 = 0;
-    for b in field {
-        if !b.is_ascii_digit() {
-            return None;
-        }
-        value = value * 10 + u64::from(*b - b'0');
-    }
-    Some(value)
+    str::from_utf8(field).ok()?.parse().ok()
 }
 
 /// The number of 1 to 10 digits that a field writes, if it fits 32 bits.
@@ -127,17 +121,25 @@ pub fn read_number(field: &[u8]) -> Option<u32>
     if field.len() > MOST_DIGITS {
         return None;
     }
-    u32::try_from(read_decimal(field)?).ok()
+    read_digits(field)
+}
+
+/// Whether a zero stands in front of another byte.
+fn has_needless_zero(field: &[u8]) -> bool
+    ensures { result ≡ needless_zero field.now }
+{
+    matches!(field, [b'0', _, ..])
 }
 
 /// The number of 1 to 7 digits, with no needless zero in front, that a field writes.
+#[tactic(auto, using(crate::proofs::Digits::short_fits))]
 pub fn read_short_number(field: &[u8]) -> Option<u32>
     ensures { result ≡ short_number field.now }
 {
-    if field.len() > MOST_SHORT_DIGITS || (field.len() > 1 && field[0] == b'0') {
+    if field.len() > MOST_SHORT_DIGITS || has_needless_zero(field) {
         return None;
     }
-    Some(read_decimal(field)? as u32)
+    read_digits(field)
 }
 
 /// The numbers in the fields of a rest, in order, if each field is a number: none where there is no rest.
@@ -145,14 +147,14 @@ pub fn read_numbers(heap: Global, rest: Option<Rest<'_>>) -> Result<Option<Vec<u
     ensures { IfOk result (λ numbers. option_map vec_items numbers ≡ numbers_of (option_map bytes_left rest.entry)) }
 {
     let mut numbers = Vec::new(heap);
-    let mut unread = rest;
-    while let Some(part) = unread {
-        let (field, after) = split_field(part);
-        let Some(number) = read_number(field.bytes) else {
+    let Some(unread) = rest else {
+        return Ok(Some(numbers));
+    };
+    for field in unread.bytes().split(is_comma) {
+        let Some(number) = read_number(field) else {
             return Ok(None);
         };
         numbers.push(number)?;
-        unread = after;
     }
     Ok(Some(numbers))
 }

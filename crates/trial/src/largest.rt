@@ -62,11 +62,7 @@ fn position(count: u32) -> Position
     ensures few { length (compact result.bookings) ≤ 4 }
 {
     let ride = any_time();
-    let fourth = if count < 4 {
-        None
-    } else {
-        Some(waiting(4, ride))
-    };
+    let fourth = (count == 4).then(|| waiting(4, ride));
     Position {
         place: 0,
         second: 0,

@@ -9,7 +9,7 @@ mod pair;
 use growth::Ground;
 use largest::{DottedRoads, grow_three, survey_four};
 use orders::Node;
-use pair::{Ride, bound, cancelled, first, picked_up, second, stop};
+use pair::{Day, Ride, stop};
 use roads::{Grid, RoadTable, Roads};
 use std::io;
 use stowage::{Load, Parcels, Passengers, Stowage};
@@ -19,21 +19,17 @@ use van_slab::{Itinerary, cheapest_order, order_at};
 fn print_order(rt: &HostRuntime, order: Itinerary) -> io::Result<()> {
     let cost = order.cost;
     print!(rt; "  cost {cost}:")?;
-    for (i, visit) in order.visits.iter().enumerate() {
-        if i < order.stops as usize {
-            let kind = if visit.kind == 0 { "pickup" } else { "drop" };
-            print!(rt; " {} {kind} {}", visit.booking, visit.second)?;
-        }
+    for visit in order.visits.iter().take(order.stops as usize) {
+        let kind = if visit.kind == 0 { "pickup" } else { "drop" };
+        print!(rt; " {} {kind} {}", visit.booking, visit.second)?;
     }
     println!(rt; "")
 }
 
 /// Prints what a slab lists: its orders, and the cheapest again.
 fn print_slab(rt: &HostRuntime, slab: &[Node]) -> io::Result<()> {
-    for i in 0..24 {
-        if let Some(order) = order_at(slab, i) {
-            print_order(rt, order)?;
-        }
+    for order in (0..24).map_while(|i| order_at(slab, i)) {
+        print_order(rt, order)?;
     }
     match cheapest_order(slab) {
         Some(plan) => {
@@ -44,6 +40,12 @@ fn print_slab(rt: &HostRuntime, slab: &[Node]) -> io::Result<()> {
     }
 }
 
+/// Prints how many nodes a step has left, and what the slab then lists.
+fn print_step(rt: &HostRuntime, step: &str, count: usize, slab: &[Node]) -> io::Result<()> {
+    println!(rt; " {step}: {count} nodes")?;
+    print_slab(rt, slab)
+}
+
 /// A van's day with two bookings.
 fn run<R: Roads, S: Stowage>(
     rt: &HostRuntime,
@@ -51,22 +53,17 @@ fn run<R: Roads, S: Stowage>(
     seven: Ride,
     eight: Ride,
 ) -> io::Result<()> {
-    let mut nodes = [Node::BLANK; 36];
-    let count = first(ground, &mut nodes, seven);
-    println!(rt; " booking 7: {count} nodes")?;
-    print_slab(rt, &nodes[0..18])?;
-    let count = second(ground, &mut nodes, seven, eight);
-    println!(rt; " booking 8 too: {count} nodes")?;
-    print_slab(rt, &nodes[0..18])?;
-    let count = bound(ground, &mut nodes, seven, eight);
-    println!(rt; " at the pickup of 7: {count} nodes")?;
-    print_slab(rt, &nodes[0..18])?;
-    let count = picked_up(ground, &mut nodes, seven, eight);
-    println!(rt; " 7 picked up: {count} nodes")?;
-    print_slab(rt, &nodes[0..18])?;
-    let count = cancelled(ground, &mut nodes, seven);
-    println!(rt; " 8 cancelled: {count} nodes")?;
-    print_slab(rt, &nodes[0..18])
+    let mut day = Day::new(ground, seven, eight);
+    let count = day.first();
+    print_step(rt, "booking 7", count, day.slab())?;
+    let count = day.second();
+    print_step(rt, "booking 8 too", count, day.slab())?;
+    let count = day.bound();
+    print_step(rt, "at the pickup of 7", count, day.slab())?;
+    let count = day.picked_up();
+    print_step(rt, "7 picked up", count, day.slab())?;
+    let count = day.cancelled();
+    print_step(rt, "8 cancelled", count, day.slab())
 }
 
 /// A rider who waits until 600 and is to arrive by 3,600, with a ride of 150 seconds at most.

@@ -8,11 +8,17 @@ use orders::{Booking, Journey, Node, Stop};
 use roads::Roads;
 use stowage::{Load, Stowage, Window};
 
-/// The van's slab for two open bookings, and the working slab behind it.
+/// The nodes of a slab for two open bookings.
+const SIZE: usize = 18;
+
+/// The nodes of two such slabs.
+const NODES: usize = 36;
+
+/// The van's slab, and the working slab behind it.
 const SLABS: Slabs = Slabs {
     own: 0,
-    work: 18,
-    size: 18,
+    work: SIZE,
+    size: SIZE,
 };
 
 /// What is booked.
@@ -61,124 +67,97 @@ fn aboard(number: u32, ride: Ride, since: u32) -> Booking
     }
 }
 
-/// The van's slab gets the tree of a position with at most two bookings.
-fn regrow_own<R: Roads, S: Stowage>(
-    ground: Ground<R, S>,
-    nodes: &mut [Node],
-    position: Position,
-    fresh: Fresh,
-) -> usize
-    requires sound { Sound position }
-    requires few { length (compact position.bookings) ≤ 2 }
-    requires memory { length nodes.old ≡ 36 }
+/// The van at a place, where it is at a second and has driven as many, with these bookings.
+fn van_at(place: u32, second: u32, bookings: [Option<Booking>; 4]) -> Position
+    ensures { result ≡ record { place = place; second = second; driven = second; cost = 0; bookings = bookings } }
 {
-    regrow(ground, nodes, SLABS, position, fresh)
-}
-
-/// The van's slab gets what stood below a stop that was served.
-fn prune_own<R: Roads, S: Stowage>(
-    ground: Ground<R, S>,
-    nodes: &mut [Node],
-    position: Position,
-    served: u32,
-) -> usize
-    requires sound { Sound position }
-    requires few { length (compact position.bookings) ≤ 2 }
-    requires memory { length nodes.old ≡ 36 }
-{
-    prune(ground, nodes, SLABS, position, served)
-}
-
-/// Booking 7 comes to the van at place 0.
-pub fn first<R: Roads, S: Stowage>(ground: Ground<R, S>, nodes: &mut [Node], seven: Ride) -> usize
-    requires { length nodes.old ≡ 36 }
-{
-    let position = Position {
-        place: 0,
-        second: 0,
-        driven: 0,
+    Position {
+        place,
+        second,
+        driven: second,
         cost: 0,
-        bookings: [Some(waiting(7, seven)), None, None, None],
-    };
-    regrow_own(ground, nodes, position, Fresh::Only(7))
+        bookings,
+    }
 }
 
-/// Booking 8 comes too.
-pub fn second<R: Roads, S: Stowage>(
-    ground: Ground<R, S>,
-    nodes: &mut [Node],
+/// A van's day with bookings 7 and 8, in memory of two slabs.
+#[derive(Drop)]
+pub struct Day<'a, R: Roads, S: Stowage> {
+    ground: Ground<'a, R, S>,
     seven: Ride,
     eight: Ride,
-) -> usize
-    requires { length nodes.old ≡ 36 }
-{
-    let position = Position {
-        place: 0,
-        second: 0,
-        driven: 0,
-        cost: 0,
-        bookings: [Some(waiting(7, seven)), Some(waiting(8, eight)), None, None],
-    };
-    regrow_own(ground, nodes, position, Fresh::Only(8))
+    nodes: [Node; NODES],
 }
 
-/// The van comes to the pickup of 7, 100 seconds away.
-pub fn bound<R: Roads, S: Stowage>(
-    ground: Ground<R, S>,
-    nodes: &mut [Node],
-    seven: Ride,
-    eight: Ride,
-) -> usize
-    requires { length nodes.old ≡ 36 }
-{
-    let position = Position {
-        place: seven.pickup.place,
-        second: 100,
-        driven: 100,
-        cost: 0,
-        bookings: [Some(waiting(7, seven)), Some(waiting(8, eight)), None, None],
-    };
-    regrow_own(ground, nodes, position, Fresh::Nobody)
-}
+impl<'a, R: Roads, S: Stowage> Day<'a, R, S> {
+    /// The day before any booking.
+    pub fn new(ground: Ground<'a, R, S>, seven: Ride, eight: Ride) -> Day<'a, R, S> {
+        Day {
+            ground,
+            seven,
+            eight,
+            nodes: [Node::BLANK; NODES],
+        }
+    }
 
-/// Booking 7 is picked up there, on time.
-pub fn picked_up<R: Roads, S: Stowage>(
-    ground: Ground<R, S>,
-    nodes: &mut [Node],
-    seven: Ride,
-    eight: Ride,
-) -> usize
-    requires { length nodes.old ≡ 36 }
-{
-    let position = Position {
-        place: seven.pickup.place,
-        second: 100,
-        driven: 100,
-        cost: 0,
-        bookings: [
-            Some(aboard(7, seven, 100)),
-            Some(waiting(8, eight)),
+    /// The van's slab.
+    pub fn slab(&self) -> &[Node] {
+        &self.nodes[..SIZE]
+    }
+
+    /// The slab gets the tree of a position with at most two bookings.
+    fn regrow(&mut self, position: Position, fresh: Fresh) -> usize
+        requires sound { Sound position }
+        requires few { length (compact position.bookings) ≤ 2 }
+    {
+        regrow(self.ground, &mut self.nodes, SLABS, position, fresh)
+    }
+
+    /// Booking 7 comes to the van at place 0.
+    pub fn first(&mut self) -> usize {
+        let position = van_at(0, 0, [Some(waiting(7, self.seven)), None, None, None]);
+        self.regrow(position, Fresh::Only(7))
+    }
+
+    /// Booking 8 comes too.
+    pub fn second(&mut self) -> usize {
+        let bookings = [
+            Some(waiting(7, self.seven)),
+            Some(waiting(8, self.eight)),
             None,
             None,
-        ],
-    };
-    prune_own(ground, nodes, position, 7)
-}
+        ];
+        self.regrow(van_at(0, 0, bookings), Fresh::Only(8))
+    }
 
-/// Booking 8 is cancelled: the tree grows anew.
-pub fn cancelled<R: Roads, S: Stowage>(
-    ground: Ground<R, S>,
-    nodes: &mut [Node],
-    seven: Ride,
-) -> usize
-    requires { length nodes.old ≡ 36 }
-{
-    let position = Position {
-        place: seven.pickup.place,
-        second: 100,
-        driven: 100,
-        cost: 0,
-        bookings: [Some(aboard(7, seven, 100)), None, None, None],
-    };
-    regrow_own(ground, nodes, position, Fresh::Everybody)
+    /// The van comes to the pickup of 7, 100 seconds away.
+    pub fn bound(&mut self) -> usize {
+        let bookings = [
+            Some(waiting(7, self.seven)),
+            Some(waiting(8, self.eight)),
+            None,
+            None,
+        ];
+        let position = van_at(self.seven.pickup.place, 100, bookings);
+        self.regrow(position, Fresh::Nobody)
+    }
+
+    /// Booking 7 is picked up there, on time: the slab gets what stood below its pickup.
+    pub fn picked_up(&mut self) -> usize {
+        let bookings = [
+            Some(aboard(7, self.seven, 100)),
+            Some(waiting(8, self.eight)),
+            None,
+            None,
+        ];
+        let position = van_at(self.seven.pickup.place, 100, bookings);
+        prune(self.ground, &mut self.nodes, SLABS, position, 7)
+    }
+
+    /// Booking 8 is cancelled: the tree grows anew.
+    pub fn cancelled(&mut self) -> usize {
+        let bookings = [Some(aboard(7, self.seven, 100)), None, None, None];
+        let position = van_at(self.seven.pickup.place, 100, bookings);
+        self.regrow(position, Fresh::Everybody)
+    }
 }

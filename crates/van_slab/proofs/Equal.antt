@@ -1,23 +1,22 @@
--- Shows that visits, and lists of them, are equal just where their tests say so.
-use Rattle.std.proofs.Common.{◌≡◌, ◌==◌, Bool, List, Decides, ap}
-use Rattle.std.proofs.lemmas.Bool.Decides.{Decides-eqb}
-use Rattle.std.proofs.lemmas.Bool.{and_parts, and_from}
+-- Shows that visits, and itineraries, are equal just where their tests say so.
+use Rattle.std.proofs.Common.{◌≡◌, Decides, refl, ap}
+use Rattle.std.proofs.lemmas.Bool.Decides.{Decides-eqb, Decides-and, Decides-like}
 use Rattle.std.proofs.lemmas.Slice.Eq.{slice_eq-Decides}
-use lib.Pointwise.{pointwise}
 use Rattle.van_slab.specs.declared.Visit.{Visit}
-use Rattle.van_slab.specs.Equality.{same_visit}
+use Rattle.van_slab.specs.declared.Itinerary.{Itinerary}
+use Rattle.van_slab.specs.Equality.{same_visit, same_itinerary}
 
 visit_decides : (x y : Visit) → Decides (same_visit x y) (x ≡ y)
-visit_decides x y = (
-  λ t. let p = and_parts (x.booking == y.booking) _ t in
-      let q = and_parts (x.kind == y.kind) _ p.1 in
-      let booking = (Decides-eqb x.booking y.booking).0 p.0 in
-      let kind = (Decides-eqb x.kind y.kind).0 q.0 in
-      let second = (Decides-eqb x.second y.second).0 q.1 in
-      (λ i. record { booking = booking i; kind = kind i; second = second i }),
-  λ e. and_from _ _ ((Decides-eqb x.booking y.booking).1 (ap (λ (v : Visit). v.booking) e))
-      (and_from _ _ ((Decides-eqb x.kind y.kind).1 (ap (λ (v : Visit). v.kind) e)) ((Decides-eqb x.second y.second).1 (ap (λ (v : Visit). v.second) e))),
-)
+visit_decides x y =
+    Decides-like _
+    (λ (p : (x.booking ≡ y.booking) × ((x.kind ≡ y.kind) × (x.second ≡ y.second))). λ i. record { booking = p.0 i; kind = p.1.0 i; second = p.1.1 i })
+    (λ e. (ap (λ (v : Visit). v.booking) e, (ap (λ (v : Visit). v.kind) e, ap (λ (v : Visit). v.second) e)))
+    (Decides-and _ _ (Decides-eqb x.booking y.booking) (Decides-and _ _ (Decides-eqb x.kind y.kind) (Decides-eqb x.second y.second)))
 
-pub visits_decide : (xs ys : List Visit) (r : Bool) → r ≡ pointwise same_visit xs ys → Decides r (xs ≡ ys)
-visits_decide = slice_eq-Decides visit_decides
+pub itinerary_decides : (x y : Itinerary) → Decides (same_itinerary x y) (x ≡ y)
+itinerary_decides x y =
+    Decides-like _
+    (λ (p : (x.cost ≡ y.cost) × ((x.stops ≡ y.stops) × (x.visits ≡ y.visits))). λ i. record { cost = p.0 i; stops = p.1.0 i; visits = p.1.1 i })
+    (λ e. (ap (λ (r : Itinerary). r.cost) e, (ap (λ (r : Itinerary). r.stops) e, ap (λ (r : Itinerary). r.visits) e)))
+    (Decides-and _ _ (Decides-eqb x.cost y.cost)
+    (Decides-and _ _ (Decides-eqb x.stops y.stops) (slice_eq-Decides visit_decides x.visits y.visits _ refl)))

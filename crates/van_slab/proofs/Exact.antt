@@ -3,7 +3,7 @@ use Rattle.std.proofs.Common.{◌≡◌, ℕ, zero, suc, ◌+◌, ◌-◌, ◌*�
 use Rattle.std.specs.List.{slice_get}
 use Rattle.std.specs.Option.{option_map}
 use Rattle.std.proofs.lemmas.List.{map_push, take-map}
-use Rattle.std.proofs.lemmas.Option.{slice_get_past}
+use Rattle.std.proofs.lemmas.Option.{slice_get_past, slice_get-map}
 use Rattle.std.proofs.lemmas.Bool.{cond-true, eqb-true}
 use Rattle.orders.specs.declared.Booking.{Booking}
 use Rattle.orders.specs.declared.Booking.TheVariants.{Waiting, Aboard}
@@ -21,7 +21,7 @@ use Rattle.van_slab.specs.Trails.{trail_to, ended, trails, trail_cost, cheaper_t
 use Rattle.van_slab.specs.Laws.{numbers, seconds, order_of, Shown, Tells, Open, slab_trails, ExactReading}
 use Rattle.van_slab.proofs.Entered.{can_follow}
 use Rattle.van_slab.proofs.Told.{cost_push}
-use Rattle.van_slab.proofs.Picked.{nth_map, nth_none, nth_in, cheapest_in, mapped_some, mapped_none}
+use Rattle.van_slab.proofs.Picked.{nth_none, nth_in, cheapest_in, mapped_some, mapped_none}
 use Rattle.van_slab.proofs.Tracks.{Tracks, Tracked, reaches_shown, tracks_row}
 
 -- no order stands in the rest of a slab
@@ -115,7 +115,7 @@ module _ (g : Rules) where
     first_all = cheapest_orders (slab_trails g size w) ∙ ap cheapest listed_all
 
     at_all : (i : ℕ) → option_map order_of (slice_get (slab_trails g size w) i) ≡ slice_get (valid_orders g w) i
-    at_all i = nth_map order_of (slab_trails g size w) i ∙ ap (λ qs. slice_get qs i) listed_all
+    at_all i = sym (slice_get-map order_of (slab_trails g size w) i) ∙ ap (λ qs. slice_get qs i) listed_all
 
     -- what a trail of the slab tells
     trail_tells : (t : List Node) (r : Itinerary) → In t (slab_trails g size w) → r ≡ told t → Tells g w (order_of t) r

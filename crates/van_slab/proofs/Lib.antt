@@ -2,7 +2,6 @@ pub mod Entered
 pub mod Told
 pub mod Equal
 pub mod Best
-pub mod Turns
 pub mod Picked
 pub mod Tracks
 pub mod Exact

@@ -1,44 +1,72 @@
 -- Shows what an itinerary tells of a trail, node by node.
-use Rattle.std.proofs.Common.{◌≡◌, ℕ, ◌+◌, ◌-◌, ◌<◌, ◌≤◌, List, [], ◌∷◌, ◌++◌, map, length, get_or, take, set, replicate, sym, refl, ap, ◌∙◌, add-one, arith}
-use Rattle.std.proofs.lemmas.List.{take_more, map_push, set_at, length-map, length-take-le, append_assoc}
+use Rattle.std.proofs.Common.{◌≡◌, ℕ, zero, suc, ◌+◌, ◌-◌, ◌<◌, ◌≤◌, List, [], ◌∷◌, ◌++◌, map, length, get_or, replicate, Some, None, Option, sym, refl, ap, subst, ⊎_elim, ◌∙◌, arith}
+use Rattle.std.proofs.lemmas.Bool.{cases_lt}
+use Rattle.std.specs.Array.{IsFromFnResult, IsFromFnResultFrom}
+use Rattle.std.specs.Fn.{Called}
+use Rattle.std.specs.List.{slice_get}
+use Rattle.std.specs.Option.{MatchOption, option_copied}
+use Rattle.std.proofs.lemmas.Option.{same_Some, slice_get-get_or}
+use Rattle.std.proofs.lemmas.List.{same_lists, get_or_append_left, get_or-append_right, get_or-replicate, get_or_default, get_or_past, length-map, length-append, length-replicate}
+use denote.Ref.{Bor}
+use denote.Param.Members.{Mut}
 use Rattle.orders.specs.declared.Node.{Node}
-use Rattle.orders.specs.Slabs.{blank}
 use Rattle.van_slab.specs.declared.Visit.{Visit}
-use Rattle.van_slab.specs.Trails.{trail_cost, visit_of, no_visit, told}
+use Rattle.van_slab.specs.Trails.{trail_cost, visit_of, visit_at, no_visit, told}
 
 pub cost_push : (t : List Node) (x : Node) → trail_cost (t ++ (x ∷ [])) ≡ x.cost
 cost_push [] x = refl
 cost_push (y ∷ []) x = refl
 cost_push (y ∷ z ∷ t) x = cost_push (z ∷ t) x
 
--- the visits of n nodes, and those that are not used
-abbrev pub visits_of : ℕ → List Node → List Visit
-visits_of n t = map visit_of t ++ replicate (8 - n) no_visit
+-- the cost of a trail is that of the node at its end
+cost_of_end : (t : List Node) (x : Node) → slice_get t (length t - 1) ≡ Some x → x.cost ≡ trail_cost t
+cost_of_end [] x e = cc
+cost_of_end (y ∷ []) x e = ap (λ (n : Node). n.cost) (same_Some x y (sym e))
+cost_of_end (y ∷ z ∷ t) x e =
+    let k : suc (length (z ∷ t) - 1) ≡ length (y ∷ z ∷ t) - 1 = omega arith in
+    cost_of_end (z ∷ t) x (ap (slice_get (y ∷ z ∷ t)) k ∙ e)
 
-visits_push : (n : ℕ) (t : List Node) (x : Node) → length t ≡ n → n < 8 → set (visits_of n t) n (visit_of x) ≡ visits_of (n + 1) (t ++ (x ∷ []))
-visits_push n t x l h =
-    let rest : ℕ = 8 - (n + 1) in
-    let e : 8 - n ≡ rest + 1 = omega arith in
-    ap (λ m. set (map visit_of t ++ replicate m no_visit) n (visit_of x)) (e ∙ add-one rest)
-    ∙ set_at (map visit_of t) no_visit (replicate rest no_visit) (visit_of x) n (length-map t visit_of ∙ l)
-    ∙ sym (ap (λ vs. vs ++ replicate rest no_visit) (map_push visit_of t x) ∙ append_assoc (map visit_of t) (visit_of x ∷ []) (replicate rest no_visit))
+pub last_cost : (t : List Node) (o : Option (Bor Node)) (r : ℕ) → option_copied o ≡ slice_get t (length t - 1) →
+    MatchOption o (r ≡ 0) (λ x. r ≡ x.now.cost) → r ≡ trail_cost t
+last_cost [] None r e h = h
+last_cost (y ∷ t) None r e h = let s = slice_get-get_or (y ∷ t) (length (y ∷ t) - 1) y (omega arith) in cc
+last_cost t (Some x) r e h = h ∙ cost_of_end t x.now (sym e)
 
-module _ (xs : List Node) (i : ℕ) (h : i < length xs) where
-  pub cost_more : (get_or xs i blank).cost ≡ trail_cost (take (i + 1) xs)
-  cost_more = sym (ap trail_cost (take_more xs i blank h) ∙ cost_push (take i xs) (get_or xs i blank))
+-- what calls that all give h make of the indices from i on
+each_from : {F B : Type 0} (g : Mut F (ℕ × Unit {0}) B) (h : ℕ → B) (f : F) → ((i : ℕ) (y : B) (q : F) → Called g f (i, tt) y q → (q ≡ f) × (y ≡ h i)) →
+    (ys : List B) (i n : ℕ) → IsFromFnResultFrom g f ys i n → (k : ℕ) (e : B) → k < n → get_or ys (i + k) e ≡ h (i + k)
+each_from g h f c ys i zero r k e l = absurd (omega arith)
+each_from g h f c ys i (suc n) r zero e l =
+    let z : i + 0 ≡ i = omega arith in
+    ap (λ j. get_or ys j e) z ∙ r.2.1 e ∙ (c i r.1 r.0 r.3).1 ∙ ap h (sym z)
+each_from g h f c ys i (suc n) r (suc k) e l =
+    let z : i + suc k ≡ i + 1 + k = omega arith in
+    let p = subst (λ d. IsFromFnResultFrom g d ys (i + 1) n) (c i r.1 r.0 r.3).0 r.4 in
+    ap (λ j. get_or ys j e) z ∙ each_from g h f c ys (i + 1) n p k e (omega arith) ∙ ap h (sym z)
 
-  pub visits_more : length xs ≡ 8 → (vs : List Visit) → vs ≡ visits_of i (take i xs) →
-      set vs i (visit_of (get_or xs i blank)) ≡ visits_of (i + 1) (take (i + 1) xs)
-  visits_more l vs e =
-      ap (λ v. set v i (visit_of (get_or xs i blank))) e
-      ∙ visits_push i (take i xs) (get_or xs i blank) (length-take-le i xs (omega arith)) (omega arith)
-      ∙ ap (visits_of (i + 1)) (sym (take_more xs i blank h))
+-- what the trail tells at an index stands there among the visits of an itinerary
+visit_there : (t : List Node) (k : ℕ) (d : Visit) → length t ≤ 8 → k < 8 → visit_at t k ≡ get_or (map visit_of t ++ replicate (8 - length t) no_visit) k d
+visit_there t k d l h =
+    let m : length (map visit_of t) ≡ length t = length-map t visit_of in
+    ⊎_elim
+    (λ (b : k < length t). let q : k < length (map visit_of t) = omega arith in
+    get_or_default (map visit_of t) k no_visit d q ∙ sym (get_or_append_left (map visit_of t) (replicate (8 - length t) no_visit) d k q))
+    (λ (b : length t ≤ k). let q : length (map visit_of t) ≤ k = omega arith in
+    get_or_past (map visit_of t) k no_visit q
+    ∙ sym (get_or-append_right (map visit_of t) (replicate (8 - length t) no_visit) (length t) k d m b ∙ get_or-replicate (8 - length t) (k - length t) no_visit d (omega arith)))
+    (cases_lt k (length t))
 
--- the itinerary once all nodes are told
-pub told_all : (xs : List Node) (n i cost : ℕ) (vs : List Visit) → n ≤ length xs → i ≡ n → cost ≡ trail_cost (take i xs) →
-    vs ≡ visits_of i (take i xs) → record { cost = cost; stops = n; visits = vs } ≡ told (take n xs)
-told_all xs n i cost vs h e p q =
-    let l : length (take n xs) ≡ n = length-take-le n xs h in
-    let c : cost ≡ trail_cost (take n xs) = p ∙ ap (λ m. trail_cost (take m xs)) e in
-    let v : vs ≡ visits_of (length (take n xs)) (take n xs) = q ∙ ap (λ m. visits_of m (take m xs)) e ∙ ap (λ m. visits_of m (take n xs)) (sym l) in
-    λ j. record { cost = c j; stops = sym l j; visits = v j }
+-- visits that are what the trail tells, index by index
+pub visits_told : (t : List Node) {F : Type 0} (g : Mut F (ℕ × Unit {0}) Visit) (f : F) →
+    ((i : ℕ) (y : Visit) (q : F) → Called g f (i, tt) y q → (q ≡ f) × (y ≡ visit_at t i)) → {ys : List Visit} → IsFromFnResult g f ys 8 →
+    length t ≤ 8 → ys ≡ map visit_of t ++ replicate (8 - length t) no_visit
+visits_told t g f c {ys} r l =
+    let m : length (map visit_of t) ≡ length t = length-map t visit_of in
+    same_lists _ _ (simp (length-append, length-replicate) (omega (arith, r.long)))
+    (λ k d b. let h : k < 8 = omega (arith, r.long) in
+    let z : k ≡ 0 + k = omega arith in
+    ap (λ j. get_or ys j d) z ∙ each_from g (visit_at t) f c ys 0 8 r.each k d h ∙ ap (visit_at t) (sym z) ∙ visit_there t k d l h)
+
+pub told_of : (t : List Node) {cost stops : ℕ} {visits : List Visit} → cost ≡ trail_cost t → stops ≡ length t →
+    visits ≡ map visit_of t ++ replicate (8 - length t) no_visit → record { cost = cost; stops = stops; visits = visits } ≡ told t
+told_of t c s v i = record { cost = c i; stops = s i; visits = v i }

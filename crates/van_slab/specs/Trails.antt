@@ -1,5 +1,5 @@
 -- Defines the orders that a row of nodes lists, whatever the nodes hold: each as a trail, the nodes from a root down to its end.
-use Rattle.std.specs.Prelude.{ℕ, ◌+◌, ◌-◌, Bool, true, cond, ◌&&◌, List, [], ◌∷◌, ◌++◌, map, length, take, replicate, Some, None, Option, ◌==◌, nat_le, nat_lt}
+use Rattle.std.specs.Prelude.{ℕ, ◌+◌, ◌-◌, Bool, cond, ◌&&◌, List, [], ◌∷◌, ◌++◌, map, length, take, replicate, slice_index_or, Some, None, Option, ◌==◌, nat_le, nat_lt}
 use Rattle.std.specs.Option.{option_map}
 use Rattle.std.specs.List.{slice_get}
 use Rattle.orders.specs.declared.Node.{Node}
@@ -47,6 +47,10 @@ visit_of x = record { booking = x.booking; kind = x.kind; second = x.second }
 abbrev pub no_visit : Visit
 no_visit = record { booking = 0; kind = 0; second = 0 }
 
+-- what a trail tells at an index, past its end of a visit that is not used
+abbrev pub visit_at : List Node → ℕ → Visit
+visit_at t i = slice_index_or (map visit_of t) i no_visit
+
 -- the itinerary of a trail: its cost, how many stops it has, and these, with visits that are not used up to eight
 abbrev pub told : List Node → Itinerary
 told t = record { cost = trail_cost t; stops = length t; visits = map visit_of t ++ replicate (8 - length t) no_visit }
@@ -58,8 +62,3 @@ cheapest_order xs = option_map told (cheapest_trail (trails [] xs))
 -- the itinerary of the order at an index from 0, in the sequence of the slab
 abbrev pub order_at : List Node → ℕ → Option Itinerary
 order_at xs i = option_map told (slice_get (trails [] xs) i)
-
--- a cost is below that of the best order so far, if there is one
-abbrev pub beats : ℕ → Option Itinerary → Bool
-beats cost None = true
-beats cost (Some best) = nat_lt cost best.cost

@@ -3,11 +3,11 @@
 
 ghost use Rattle.std.specs.Prelude.{◌≡◌, Decides};
 ghost use Rattle.orders.specs.Rules.{rules};
-ghost use Rattle.van_slab.specs.Laws.{ExactReading, BoundedReading};
-ghost use Rattle.std.specs.Cmp.{partial_equiv_from_equiv};
 ghost use Rattle.van_slab.specs.Equality.{same_itinerary};
-ghost use Rattle.van_slab.specs.EqualityLemmas.{same_itinerary_laws};
+ghost use Rattle.van_slab.specs.Trails.{visit_of};
+ghost use Rattle.van_slab.specs.Laws.{ExactReading, BoundedReading};
 
+use orders::Node;
 use roads::Roads;
 use stowage::Stowage;
 
@@ -18,41 +18,55 @@ mod trail;
 pub use limit::OpenLimit;
 pub use reading::{cheapest_order, order_at};
 
+/// The most stops of an order.
+const MOST_STOPS: usize = 8;
+
 /// A stop of an itinerary: its booking, 0 for a pickup or 1 for a drop-off, and its second of service.
 #[derive(Clone, Copy, PartialEq, Eq, Debug)]
 pub struct Visit {
     pub booking: u32,
+    // Kept: node memory may hold anything, and a visit tells what its node says.
     pub kind: u32,
     pub second: u32,
 }
 
-/// An order as a van drives it: its cost, how many stops it has, and these in turn; visits that are not used are all zeros.
-#[derive(Clone, Copy, Debug)]
-pub struct Itinerary {
-    pub cost: u32,
-    pub stops: u32,
-    pub visits: [Visit; 8],
+impl Visit {
+    /// A visit that is not used.
+    pub const UNUSED: Visit = Visit {
+        booking: 0,
+        kind: 0,
+        second: 0,
+    };
 }
 
-/// Itineraries are equal where all their parts are.
-impl PartialEq for Itinerary {
-    ghost eq = { same_itinerary };
+/// What a node tells of its stop.
+impl From<Node> for Visit {
+    ghost from_gives = { λ node visit. visit ≡ visit_of node };
 
-    ghost laws = { partial_equiv_from_equiv same_itinerary_laws };
-
-    fn eq(&self, other: &Itinerary) -> bool
-        ensures test { result ≡ same_itinerary self.now other.now }
-        ensures decides { Decides result (self.now ≡ other.now) }
-    {
-        if self.cost != other.cost || self.stops != other.stops {
-            return false;
+    fn from(node: Node) -> Visit {
+        Visit {
+            booking: node.booking,
+            kind: node.kind,
+            second: node.second,
         }
-        self.visits == other.visits
     }
 }
 
-impl Eq for Itinerary {
-    ghost laws = { same_itinerary_laws };
+/// An order as a van drives it: its cost, how many stops it has, and these in turn; visits that are not used are all zeros.
+#[derive(Clone, Copy, PartialEq, Eq, Debug)]
+pub struct Itinerary {
+    pub cost: u32,
+    // Kept: an answer is a cost, a number of stops and eight places, and takes no memory of its own.
+    pub stops: u32,
+    pub visits: [Visit; MOST_STOPS],
+}
+
+/// Whether two itineraries tell the same: all their parts are equal.
+pub fn is_same(itinerary: &Itinerary, other: &Itinerary) -> bool
+    ensures test { result ≡ same_itinerary itinerary.now other.now }
+    ensures decides { Decides result (itinerary.now ≡ other.now) }
+{
+    itinerary == other
 }
 
 /// A slab that holds the tree of a van with one to four open bookings lists just the van's valid orders, and each as it is

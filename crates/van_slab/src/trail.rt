@@ -1,72 +1,65 @@
 //! The way from a root of a tree down to the node that was read last.
-ghost use Rattle.std.specs.Prelude.{◌≡◌, ◌≤◌, true, length, take};
-ghost use Rattle.van_slab.specs.Trails.{follows, trail_to, told};
+ghost use Rattle.std.specs.Prelude.{◌≡◌, true, []};
+ghost use Rattle.van_slab.specs.Trails.{follows, trail_to, trail_cost, visit_at, told};
 
-use crate::{Itinerary, Visit};
+use crate::{Itinerary, MOST_STOPS, Visit};
+use arrayvec::ArrayVec;
 use orders::Node;
+use std::array;
 
-/// The most stops of an order.
-const MOST_STOPS: usize = 8;
-
-/// A visit that is not used.
-const NO_VISIT: Visit = Visit {
-    booking: 0,
-    kind: 0,
-    second: 0,
-};
-
-/// The nodes from a root down to the node that was read last: the first `stops` of these.
-#[derive(Clone, Copy)]
+/// The nodes from a root down to the node that was read last.
+#[derive(Drop)]
 pub(crate) struct Trail {
-    nodes: [Node; MOST_STOPS],
-    stops: usize,
-    ghost within: { (length nodes ≡ 8) × (stops ≤ 8) },
+    nodes: ArrayVec<Node, MOST_STOPS>,
 }
 
 impl Trail {
     /// Before any node is read.
     pub(crate) fn new() -> Trail
-        ensures { result.stops ≡ 0 }
+        ensures { result.nodes.items ≡ [] }
     {
         Trail {
-            nodes: [Node::BLANK; MOST_STOPS],
-            stops: 0,
+            nodes: ArrayVec::new(),
         }
     }
 
     /// Goes on to the next node, and says whether it can follow the one before it.
     pub(crate) fn enter(&mut self, node: Node) -> bool
-        ensures answer { result ≡ follows (take self.old.stops self.old.nodes) node }
-        ensures moved { result ≡ true → take self.new.stops self.new.nodes ≡ trail_to (take self.old.stops self.old.nodes) node }
+        ensures answer { result ≡ follows self.old.nodes.items node }
+        ensures moved { result ≡ true → self.new.nodes.items ≡ trail_to self.old.nodes.items node }
     {
         let depth = node.depth as usize;
-        if node.span == 0 || depth == 0 || depth > self.stops + 1 || depth > MOST_STOPS {
+        if node.span == 0 || depth == 0 || depth > self.nodes.len() + 1 {
             return false;
         }
-        self.nodes[depth - 1] = node;
-        self.stops = depth;
-        true
+        self.nodes.truncate(depth - 1);
+        self.nodes.try_push(node).is_ok()
+    }
+
+    /// The cost so far, that of the last node.
+    fn cost(&self) -> u32
+        ensures { result ≡ trail_cost self.now.nodes.items }
+    {
+        self.nodes.last().map_or(0, |node| node.cost)
+    }
+
+    /// What the node at an index tells, and from the trail's end on a visit that is not used.
+    fn visit(&self, index: usize) -> Visit
+        ensures { result ≡ visit_at self.now.nodes.items index }
+    {
+        self.nodes
+            .get(index)
+            .map_or(Visit::UNUSED, |node| Visit::from(*node))
     }
 
     /// The trail as an itinerary.
     pub(crate) fn itinerary(&self) -> Itinerary
-        ensures { result ≡ told (take self.now.stops self.now.nodes) }
+        ensures { result ≡ told self.now.nodes.items }
     {
-        let mut cost = 0;
-        let mut visits = [NO_VISIT; MOST_STOPS];
-        for i in 0..self.stops {
-            let node = self.nodes[i];
-            cost = node.cost;
-            visits[i] = Visit {
-                booking: node.booking,
-                kind: node.kind,
-                second: node.second,
-            };
-        }
         Itinerary {
-            cost,
-            stops: self.stops as u32,
-            visits,
+            cost: self.cost(),
+            stops: self.nodes.len() as u32,
+            visits: array::from_fn(|index| self.visit(index)),
         }
     }
 }

@@ -47,12 +47,10 @@ impl Roads for Grid {
 
     fn seconds(&self, from: u32, to: u32) -> Option<u32> {
         let places = self.places();
-        if from < places && to < places {
+        (from < places && to < places).then(|| {
             let columns = (from % self.columns).abs_diff(to % self.columns);
             let rows = (from / self.columns).abs_diff(to / self.columns);
-            Some(self.east * columns + self.south * rows)
-        } else {
-            None
-        }
+            self.east * columns + self.south * rows
+        })
     }
 }

@@ -1,3 +1,4 @@
+-- What the hold so far becomes with the loads that are left is what the empty hold becomes with all.
 use Rattle.std.proofs.Common.{◌≡◌, drop}
 use Rattle.stowage.specs.Together.{stowed}
 use Rattle.stowage.proofs.stow_all.Given as goal

@@ -13,6 +13,7 @@ impl OpenLimit {
     pub fn new(k: u32) -> Option<OpenLimit>
         ensures { MatchOption result (is_limit k ≡ false) (LimitOf k) }
     {
+        // Kept: the pattern says both what is allowed and that it fits; a conversion would be a second test.
         match k {
             1..=4 => Some(OpenLimit { value: k as u8 }),
             _ => None,
