@@ -17,11 +17,7 @@ use van_slab::{Itinerary, Visit, cheapest_order, order_at};
 const IDLE: Itinerary = Itinerary {
     cost: 0,
     stops: 0,
-    visits: [Visit {
-        booking: 0,
-        kind: 0,
-        second: 0,
-    }; 8],
+    visits: [Visit::UNUSED; 8],
 };
 
 /// The plan of a van, as its slab tells it.

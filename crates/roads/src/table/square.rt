@@ -75,20 +75,23 @@ impl<'a> SquareTable<'a> {
         requires { NoneBad self.places self.seconds.now (length self.seconds.now) }
         ensures { MatchResult result (λ _. LawfulTable self.entry.places self.entry.seconds.now) (Refuses self.entry.places self.entry.seconds.now) }
     {
-        for from in 0..self.places {
+        let mut detour = Ok(());
+        // Kept: three loops left from the innermost by a label, so that the triple at which they stop is the one that is told.
+        'triples: for from in 0..self.places {
             for via in 0..self.places {
                 for to in 0..self.places {
                     if self.is_shortcut(from, via, to) {
-                        return Err(RoadFault::Detour {
+                        detour = Err(RoadFault::Detour {
                             from: from as u8,
                             via: via as u8,
                             to: to as u8,
                         });
+                        break 'triples;
                     }
                 }
             }
         }
-        Ok(())
+        detour
     }
 }
 
