@@ -1,7 +1,6 @@
 -- Defines what stands on the desk, and what each request changes and is answered.
-use Rattle.std.specs.Prelude.{◌≡◌, ℕ, ◌*◌, ◌⊎◌, List, Some, None, Ok, Err, Option, Result}
+use Rattle.std.specs.Prelude.{◌≡◌, ℕ, ◌*◌, ◌⊎◌, List, Some, None, Option, Result}
 use Rattle.std.specs.Option.{option_map}
-use Rattle.roads.specs.Faults.{fault_number, fault_detail}
 use Rattle.roads.specs.GridOf.{grid_columns, grid_rows, grid_east, grid_south}
 use Rattle.roads.specs.Grids.{grid_fault, grid_trip}
 use Rattle.roads.specs.TableFaults.{Refuses}
@@ -14,15 +13,17 @@ use Rattle.stowage.specs.Parcels.{parcel_promise}
 use Rattle.stowage.specs.Passengers.{passenger_promise}
 use Rattle.stowage.specs.declared.BadFigure.{BadFigure}
 use Rattle.stowage.specs.declared.Promise.{Promise}
+use Rattle.quotes.specs.Quotes.{quoted}
+use Rattle.quotes.specs.declared.QuoteFault.{QuoteFault}
 use Rattle.console.specs.declared.command.Rule.{Rule}
 use Rattle.console.specs.declared.command.Rule.TheVariants.{Passengers, Parcels}
 use Rattle.console.specs.declared.desk.Desk.{Desk}
-use Rattle.console.specs.declared.quotes.QuoteFault.{QuoteFault}
-use Rattle.console.specs.declared.reply.Refusal.{Refusal}
+use Rattle.console.specs.declared.desk.Site.{Site}
 use Rattle.console.specs.declared.reply.Reply.{Reply}
-use Rattle.console.specs.declared.reply.Reply.TheVariants.{Nothing, NotUnderstood, Done, Refused, Promised}
+use Rattle.console.specs.declared.reply.Reply.TheVariants.{Nothing, NotUnderstood, Done, Refused}
 use Rattle.console.specs.Lines.{Asked, nothing, unclear, table, grid, rule, quote}
-use Rattle.console.specs.Quotes.{quoted, quote_refusal}
+use Rattle.console.specs.Refusals.{road_refusal}
+use Rattle.console.specs.Replies.{told}
 
 -- roads, by the numbers that they were made of
 pub data Laid : Type 0 where
@@ -60,20 +61,31 @@ setting d = record { roads = option_map laid d.roads; rule = d.rule }
 abbrev pub unset : Setting
 unset = record { roads = None; rule = None }
 
--- how a fault of roads is reported
-abbrev pub road_refusal : RoadFault → Refusal
-road_refusal f = record { number = fault_number f; detail = fault_detail f }
+-- roads and a rule that stand
+pub record Standing : Type 0 where
+  pub roads : Laid
+  pub rule : Rule
 
--- how a quote is answered
-abbrev pub told : Result Promise QuoteFault → Reply
-told (Ok p) = Promised p
-told (Err f) = Refused (quote_refusal f)
+abbrev pub standing : Site → Standing
+standing x = record { roads = laid x.roads.now; rule = x.rule }
+
+-- roads and rule, once both stand
+abbrev pub both : Option Laid → Option Rule → Option Standing
+both None r = None
+both (Some l) None = None
+both (Some l) (Some r) = Some (record { roads = l; rule = r })
+
+abbrev pub stands : Setting → Option Standing
+stands s = both s.roads s.rule
+
+-- what a booking would be promised there
+abbrev pub quoted_there : Standing → ℕ → ℕ → List ℕ → Result Promise QuoteFault
+quoted_there x from to figures = quoted (laid_places x.roads) (laid_trip x.roads) (promise_of x.rule) from to figures
 
 -- a quote is understood once roads and rule stand
-abbrev pub quote_reply : Option Laid → Option Rule → ℕ → ℕ → List ℕ → Reply
-quote_reply None r from to figures = NotUnderstood
-quote_reply (Some l) None from to figures = NotUnderstood
-quote_reply (Some l) (Some r) from to figures = told (quoted (laid_places l) (laid_trip l) (promise_of r) from to figures)
+abbrev pub quote_reply : Option Standing → ℕ → ℕ → List ℕ → Reply
+quote_reply None from to figures = NotUnderstood
+quote_reply (Some x) from to figures = told (quoted_there x from to figures)
 
 -- sound roads take the place of those before them; unsound ones are refused, and change nothing
 abbrev pub Lays : Setting → Laid → Type 0 → (RoadFault → Type 0) → Setting → Reply → Type 0
@@ -89,4 +101,4 @@ Obeys s (table places seconds) s' reply = Lays s (table_roads places seconds) (L
 Obeys s (grid columns rows east south) s' reply =
     Lays s (grid_roads columns rows east south) (grid_fault columns rows east south ≡ None) (λ f. grid_fault columns rows east south ≡ Some f) s' reply
 Obeys s (rule r) s' reply = (s' ≡ record { roads = s.roads; rule = Some r }) × (reply ≡ Done)
-Obeys s (quote from to figures) s' reply = (s' ≡ s) × (reply ≡ quote_reply s.roads s.rule from to figures)
+Obeys s (quote from to figures) s' reply = (s' ≡ s) × (reply ≡ quote_reply (stands s) from to figures)

@@ -1,5 +1,6 @@
 pub mod Lines
 pub mod Meaning
-pub mod Quotes
+pub mod Refusals
 pub mod Replies
+pub mod Tallies
 pub mod Desks

@@ -1,16 +1,21 @@
--- Defines the text of each reply.
-use Rattle.std.specs.Prelude.{ℕ, cond, List, [], ◌++◌, codes, decimal, ◌==◌}
+-- Defines how refusals and quotes are told, and the text of each reply.
+use Rattle.std.specs.Prelude.{ℕ, List, [], ◌++◌, codes, decimal, Ok, Err, Result}
+use Rattle.quotes.specs.declared.QuoteFault.{QuoteFault}
 use Rattle.stowage.specs.declared.Promise.{Promise}
-use Rattle.console.specs.declared.reply.Refusal.{Refusal}
+use Rattle.console.specs.declared.refusal.Refusal.{Refusal}
 use Rattle.console.specs.declared.reply.Reply.{Reply}
 use Rattle.console.specs.declared.reply.Reply.TheVariants.{Nothing, NotUnderstood, Done, Refused, Promised}
-use Rattle.console.specs.declared.reply.Tally.{Tally}
+use Rattle.console.specs.Refusals.{quote_refusal, refusal_text}
 
--- a refusal's number, and its detail where it has one
-abbrev pub refusal_text : Refusal → List ℕ
-refusal_text r = cond (r.detail == 0)
-    (codes "refused " ++ decimal r.number)
-    (codes "refused " ++ (decimal r.number ++ (codes " detail " ++ decimal r.detail)))
+-- a reply, or that the line is refused
+abbrev pub or_refused : Result Reply Refusal → Reply
+or_refused (Ok reply) = reply
+or_refused (Err refusal) = Refused refusal
+
+-- how a quote is answered
+abbrev pub told : Result Promise QuoteFault → Reply
+told (Ok p) = Promised p
+told (Err f) = Refused (quote_refusal f)
 
 -- the load, the two time windows and the ride limit
 abbrev pub promise_text : Promise → List ℕ
@@ -30,15 +35,3 @@ reply_text NotUnderstood = codes "not understood"
 reply_text Done = codes "done"
 reply_text (Refused r) = refusal_text r
 reply_text (Promised p) = promise_text p
-
--- a day before its first call
-abbrev pub no_calls : Tally
-no_calls = record { calls = 0; accepted = 0; refused = 0; alike = 0 }
-
--- the last line of a day
-abbrev pub tally_text : Tally → List ℕ
-tally_text t =
-    decimal t.calls ++ (codes " calls: "
-    ++ (decimal t.accepted ++ (codes " accepted, "
-    ++ (decimal t.refused ++ (codes " refused; office and depot alike on "
-    ++ decimal t.alike)))))

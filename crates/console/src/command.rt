@@ -1,9 +1,8 @@
 //! What a line of the day asks for.
 ghost use Rattle.std.specs.Prelude.{◌≡◌, IfOk};
 ghost use Rattle.std.specs.Option.{option_map};
-ghost use Rattle.std.specs.Str.{bytes_eq};
 ghost use Rattle.text.specs.Fields.{bytes_left};
-ghost use Rattle.console.specs.Lines.{asked, word_of, worded, as_table, as_grid, as_rule, as_quote};
+ghost use Rattle.console.specs.Lines.{asked, word_of, worded, rule_of as rule_named, as_table, as_grid, as_rule, as_quote};
 ghost use Rattle.console.specs.Meaning.{meaning};
 
 use std::alloc::{AllocError, Global};
@@ -48,103 +47,94 @@ pub enum Word {
     Grid,
     Rule,
     Quote,
-    Other,
 }
 
-/// Whether a field is this word.
-fn is(field: &[u8], word: &[u8]) -> bool
-    ensures { result ≡ bytes_eq field.now word.now }
-{
-    field == word
-}
-
-/// The word of a line's first field.
-fn leading_word(field: &[u8]) -> Word
-    ensures { result ≡ word_of field.now }
-{
-    if is(field, b"table") {
-        Word::Table
-    } else if is(field, b"grid") {
-        Word::Grid
-    } else if is(field, b"rule") {
-        Word::Rule
-    } else if is(field, b"quote") {
-        Word::Quote
-    } else {
-        Word::Other
+impl Word {
+    /// The word that a field is, if it is one.
+    fn from_bytes(field: &[u8]) -> Option<Word>
+        ensures { result ≡ word_of field.now }
+    {
+        match field {
+            b"table" => Some(Word::Table),
+            b"grid" => Some(Word::Grid),
+            b"rule" => Some(Word::Rule),
+            b"quote" => Some(Word::Quote),
+            _ => None,
+        }
     }
 }
 
-fn table_of(mut numbers: Vec<u32>) -> Command
-    ensures { meaning result ≡ as_table numbers.items }
+impl Rule {
+    /// The rule of that name, if there is one.
+    fn from_bytes(name: &[u8]) -> Option<Rule>
+        ensures { result ≡ rule_named name.now }
+    {
+        match name {
+            b"passengers" => Some(Rule::Passengers),
+            b"parcels" => Some(Rule::Parcels),
+            _ => None,
+        }
+    }
+}
+
+fn table_of(mut numbers: Vec<u32>) -> Option<Command>
+    ensures { option_map meaning result ≡ as_table numbers.items }
 {
     if numbers.is_empty() {
-        return Command::Unclear;
+        return None;
     }
-    Command::Table {
+    Some(Command::Table {
         places: numbers.remove(0),
         seconds: numbers,
-    }
+    })
 }
 
-fn grid_of(numbers: &[u32]) -> Command
-    ensures { meaning result ≡ as_grid numbers.now }
+fn grid_of(numbers: &[u32]) -> Option<Command>
+    ensures { option_map meaning result ≡ as_grid numbers.now }
 {
-    match *numbers {
-        [columns, rows, east, south] => Command::Grid {
-            columns,
-            rows,
-            east,
-            south,
-        },
-        _ => Command::Unclear,
-    }
-}
-
-fn quote_of(numbers: &[u32]) -> Command
-    ensures { meaning result ≡ as_quote numbers.now }
-{
-    match *numbers {
-        [from, to, a, b, c, d, e, f] => Command::Quote {
-            from,
-            to,
-            figures: [a, b, c, d, e, f],
-        },
-        _ => Command::Unclear,
-    }
-}
-
-fn rule_of(rest: Option<Rest<'_>>) -> Command
-    ensures { meaning result ≡ as_rule (option_map bytes_left rest.entry) }
-{
-    let Some(rest) = rest else {
-        return Command::Unclear;
+    let &[columns, rows, east, south] = numbers else {
+        return None;
     };
-    let name = rest.bytes();
-    if is(name, b"passengers") {
-        Command::Rule(Rule::Passengers)
-    } else if is(name, b"parcels") {
-        Command::Rule(Rule::Parcels)
-    } else {
-        Command::Unclear
-    }
+    Some(Command::Grid {
+        columns,
+        rows,
+        east,
+        south,
+    })
 }
 
-/// What the word and the fields after it ask for.
-fn read_worded(heap: Global, word: Word, rest: Option<Rest<'_>>) -> Result<Command, AllocError>
-    ensures { IfOk result (λ c. meaning c ≡ worded word (option_map bytes_left rest.entry)) }
+fn quote_of(numbers: &[u32]) -> Option<Command>
+    ensures { option_map meaning result ≡ as_quote numbers.now }
 {
-    if let Word::Rule = word {
-        return Ok(rule_of(rest));
-    }
-    let Some(numbers) = read_numbers(heap, rest)? else {
-        return Ok(Command::Unclear);
+    let &[from, to, a, b, c, d, e, f] = numbers else {
+        return None;
     };
+    Some(Command::Quote {
+        from,
+        to,
+        figures: [a, b, c, d, e, f],
+    })
+}
+
+fn rule_of(rest: Option<Rest<'_>>) -> Option<Command>
+    ensures { option_map meaning result ≡ as_rule (option_map bytes_left rest.entry) }
+{
+    Some(Command::Rule(Rule::from_bytes(rest?.bytes())?))
+}
+
+/// What the word and the fields after it ask for, if they are understood.
+fn read_worded(
+    heap: Global,
+    word: Word,
+    rest: Option<Rest<'_>>,
+) -> Result<Option<Command>, AllocError>
+    ensures { IfOk result (λ c. option_map meaning c ≡ worded word (option_map bytes_left rest.entry)) }
+{
     Ok(match word {
-        Word::Table => table_of(numbers),
-        Word::Grid => grid_of(&numbers),
-        Word::Quote => quote_of(&numbers),
-        Word::Rule | Word::Other => Command::Unclear,
+        Word::Table => read_numbers(heap, rest)?.and_then(table_of),
+        Word::Grid => read_numbers(heap, rest)?.and_then(|numbers| grid_of(&numbers)),
+        Word::Rule => rule_of(rest),
+        Word::Quote => read_numbers(heap, rest)?.and_then(|numbers| quote_of(&numbers)),
     })
 }
 
@@ -156,5 +146,8 @@ pub fn read_command(heap: Global, line: &[u8]) -> Result<Command, AllocError>
         return Ok(Command::Nothing);
     }
     let (first, rest) = split_field(Rest::whole(line));
-    read_worded(heap, leading_word(first.bytes), rest)
+    let Some(word) = Word::from_bytes(first.bytes) else {
+        return Ok(Command::Unclear);
+    };
+    Ok(read_worded(heap, word, rest)?.unwrap_or(Command::Unclear))
 }

@@ -3,10 +3,12 @@
 
 mod command;
 mod desk;
-mod quotes;
+mod refusal;
 mod reply;
+mod tally;
 
 pub use command::{Command, Rule, read_command};
-pub use desk::Desk;
-pub use quotes::{QuoteFault, quote};
-pub use reply::{Refusal, Reply, Tally};
+pub use desk::{Desk, Site};
+pub use refusal::Refusal;
+pub use reply::Reply;
+pub use tally::Tally;

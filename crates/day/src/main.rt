@@ -8,9 +8,9 @@ use std::io::{BufRead, BufReader};
 fn main(rt: HostRuntime) -> io::Result<()> {
     let heap = rt.alloc();
     let mut desk = Desk::new();
+    // Kept: shared with the program of a dispatcher's day, these few lines would bring all its crates along.
     for line in BufReader::new(heap, rt.stdin())?.split(heap, b'\n') {
-        let line = line?;
-        match desk.obey(read_command(heap, &line)?) {
+        match desk.obey(read_command(heap, &line?)?) {
             Reply::Nothing => {}
             reply => println!(rt; "{reply}")?,
         }

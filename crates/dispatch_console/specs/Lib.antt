@@ -3,6 +3,5 @@ pub mod Lines
 pub mod Meaning
 pub mod Replies
 pub mod Texts
-pub mod Tallies
 pub mod Desks
 pub mod Sessions

@@ -1,29 +1,16 @@
 -- Defines the text of each reply.
 use Rattle.std.specs.Prelude.{ℕ, cond, List, [], ◌∷◌, ◌++◌, take, codes, decimal, ◌==◌}
 use Rattle.std.specs.List.{flat_map}
-use Rattle.stowage.specs.declared.Promise.{Promise}
+use Rattle.console.specs.Replies.{reply_text as plain_text}
 use Rattle.van_slab.specs.declared.Itinerary.{Itinerary}
 use Rattle.van_slab.specs.declared.Visit.{Visit}
 use Rattle.fleet.specs.declared.call.Booked.{Booked}
+use Rattle.fleet.specs.declared.call.Report.{Report}
+use Rattle.fleet.specs.declared.call.Report.TheVariants as report
+use Rattle.orders.specs.declared.StopKind.{StopKind}
+use Rattle.orders.specs.declared.StopKind.TheVariants.{Pickup, DropOff}
 use Rattle.dispatch_console.specs.declared.reply.Reply.{Reply}
 use Rattle.dispatch_console.specs.declared.reply.Reply.TheVariants as reply
-
--- a refusal's number, and its detail where it has one
-abbrev pub refused_text : ℕ → ℕ → List ℕ
-refused_text number detail = cond (detail == 0)
-    (codes "refused " ++ decimal number)
-    (codes "refused " ++ (decimal number ++ (codes " detail " ++ decimal detail)))
-
--- the load, the two time windows and the ride limit
-abbrev pub promise_text : Promise → List ℕ
-promise_text p =
-    codes "load " ++ (decimal p.load.first
-    ++ (codes " " ++ (decimal p.load.second
-    ++ (codes " pickup " ++ (decimal p.pickup.opens
-    ++ (codes " to " ++ (decimal p.pickup.closes
-    ++ (codes " drop " ++ (decimal p.dropoff.opens
-    ++ (codes " to " ++ (decimal p.dropoff.closes
-    ++ (codes " ride " ++ decimal p.ride_limit))))))))))))
 
 -- the van, the price there, and the seconds of the two stops
 abbrev pub booked_text : Booked → List ℕ
@@ -33,17 +20,22 @@ booked_text b =
     ++ (codes " pickup " ++ (decimal b.pickup
     ++ (codes " drop " ++ decimal b.dropoff))))))
 
--- 0 is a pickup
-abbrev pub kind_text : ℕ → List ℕ
-kind_text kind = cond (kind == 0) (codes "pickup") (codes "drop")
+-- the kind that a number in node memory tells: 0 is a pickup, each other a drop-off
+abbrev pub kind_told : ℕ → StopKind
+kind_told number = cond (number == 0) Pickup DropOff
+
+-- what a stop is called
+abbrev pub kind_text : StopKind → List ℕ
+kind_text Pickup = codes "pickup"
+kind_text DropOff = codes "drop"
 
 -- how late a stop was served, and how far its ride was over its limit
-abbrev pub served_text : (kind late over : ℕ) → List ℕ
+abbrev pub served_text : StopKind → (late over : ℕ) → List ℕ
 served_text kind late over = kind_text kind ++ (codes " late " ++ (decimal late ++ (codes " over " ++ decimal over)))
 
 -- a stop after a mark
 abbrev pub stop_text : List ℕ → Visit → List ℕ
-stop_text mark v = mark ++ (decimal v.booking ++ (codes " " ++ (kind_text v.kind ++ (codes " " ++ decimal v.second))))
+stop_text mark v = mark ++ (decimal v.booking ++ (codes " " ++ (kind_text (kind_told v.kind) ++ (codes " " ++ decimal v.second))))
 
 -- stops, each after a comma
 abbrev pub more_text : List Visit → List ℕ
@@ -58,6 +50,13 @@ stops_text (v ∷ vs) = stop_text (codes ": ") v ++ more_text vs
 abbrev pub itinerary_text : Itinerary → List ℕ
 itinerary_text i = (codes "cost " ++ (decimal i.cost ++ (codes " stops " ++ decimal i.stops))) ++ stops_text (take i.stops i.visits)
 
+-- what an accepted call reports
+abbrev pub report_text : Report → List ℕ
+report_text report.Done = codes "done"
+report_text (report.Booked b) = booked_text b
+report_text (report.Served kind late over) = served_text kind late over
+report_text (report.Listed i) = itinerary_text i
+
 -- what the program knows
 abbrev pub help_text : List ℕ
 help_text =
@@ -68,12 +67,6 @@ help_text =
 
 -- what is printed for a reply
 abbrev pub reply_text : Reply → List ℕ
-reply_text reply.Nothing = []
-reply_text reply.NotUnderstood = codes "not understood"
+reply_text (reply.Plain r) = plain_text r
 reply_text reply.Help = help_text
-reply_text reply.Done = codes "done"
-reply_text (reply.Refused number detail) = refused_text number detail
-reply_text (reply.Promised p) = promise_text p
-reply_text (reply.Booked b) = booked_text b
-reply_text (reply.Served kind late over) = served_text kind late over
-reply_text (reply.Listed i) = itinerary_text i
+reply_text (reply.Reported r) = report_text r

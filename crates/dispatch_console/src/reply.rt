@@ -1,73 +1,51 @@
 //! What a line is answered, and its text.
 ghost use Rattle.std.specs.Prelude.{◌≡◌, Some};
 ghost use Rattle.std.specs.Fmt.{WritesOnOk};
-ghost use Rattle.dispatch_console.specs.Replies.{answer_reply, refusal_reply, fault_reply, quote_reply};
-ghost use Rattle.dispatch_console.specs.Texts.{kind_text, stop_text, more_text, stops_text, itinerary_text, promise_text, booked_text, served_text, help_text, reply_text};
+ghost use Rattle.dispatch_console.specs.Replies.{answer_reply, refusal_reply};
+ghost use Rattle.dispatch_console.specs.Texts.{kind_told as kind_by_number, kind_text, stop_text, more_text, stops_text, itinerary_text, report_text, help_text, reply_text};
+ghost use Rattle.dispatch_console.specs.declared.reply.Reply.TheVariants.{Plain};
 
-use fleet::{Answer, Booked, Refusal};
-use roads::RoadFault;
+use fleet::{Answer, Booked, Refusal, Report};
+use orders::StopKind;
 use std::fmt;
-use stowage::Promise;
 use van_slab::{Itinerary, Visit};
 
 /// What a line is answered.
 #[derive(Clone, Copy)]
 pub enum Reply {
-    Nothing,
-    NotUnderstood,
+    /// What a day without a dispatcher answers too.
+    Plain(console::Reply),
     Help,
-    Done,
-    /// The number of a refusal, and its detail, 0 where it has none.
-    Refused { number: u32, detail: u32 },
-    Promised(Promise),
-    Booked(Booked),
-    /// A stop was served: 0 for a pickup or 1 for a drop-off, the seconds that it was late, and the road seconds by which
-    /// its ride was over its limit.
-    Served { kind: u32, late: u32, over: u32 },
-    Listed(Itinerary),
+    /// What an accepted call reports.
+    Reported(Report),
 }
 
-impl Reply {
-    /// How a call's answer is told.
-    pub(crate) fn of_answer(answer: Answer) -> Reply
-        ensures { result ≡ answer_reply answer }
-    {
-        match answer {
-            Answer::Done => Reply::Done,
-            Answer::Booked(booked) => Reply::Booked(booked),
-            Answer::Served { kind, late, over } => Reply::Served { kind, late, over },
-            Answer::Listed(itinerary) => Reply::Listed(itinerary),
-            Answer::Refused(refusal) => Reply::of_refusal(refusal),
-        }
-    }
+impl From<console::Reply> for Reply {
+    ghost from_gives = { λ plain reply. reply ≡ Plain plain };
 
-    /// How a refusal is told.
-    pub(crate) fn of_refusal(refusal: Refusal) -> Reply
-        ensures { result ≡ refusal_reply refusal }
-    {
-        Reply::Refused {
+    fn from(plain: console::Reply) -> Reply {
+        Reply::Plain(plain)
+    }
+}
+
+impl From<Refusal> for Reply {
+    ghost from_gives = { λ refusal reply. reply ≡ refusal_reply refusal };
+
+    fn from(refusal: Refusal) -> Reply {
+        Reply::Plain(console::Reply::Refused(console::Refusal {
             number: refusal.number(),
             detail: refusal.detail(),
-        }
+        }))
     }
+}
 
-    /// How faulty roads are told.
-    pub(crate) fn of_fault(fault: RoadFault) -> Reply
-        ensures { result ≡ fault_reply fault }
-    {
-        Reply::Refused {
-            number: fault.number(),
-            detail: fault.detail(),
-        }
-    }
+impl From<Answer> for Reply {
+    ghost from_gives = { λ answer reply. reply ≡ answer_reply answer };
 
-    /// How a quote is told.
-    pub(crate) fn of_quote(quoted: Result<Promise, Refusal>) -> Reply
-        ensures { result ≡ quote_reply quoted }
-    {
-        match quoted {
-            Ok(promise) => Reply::Promised(promise),
-            Err(refusal) => Reply::of_refusal(refusal),
+    fn from(answer: Answer) -> Reply {
+        match answer {
+            Ok(report) => Reply::Reported(report),
+            Err(refusal) => refusal.into(),
         }
     }
 }
@@ -84,11 +62,25 @@ fn write_help<W: fmt::Write>(f: &mut fmt::Formatter<W>) -> fmt::Result
     )
 }
 
+/// The kind that a number in node memory tells: each but 0 is a drop-off.
+fn kind_told(number: u32) -> StopKind
+    ensures { result ≡ kind_by_number number }
+{
+    if number == 0 {
+        StopKind::Pickup
+    } else {
+        StopKind::DropOff
+    }
+}
+
 /// What a stop is called.
-fn kind_name(kind: u32) -> &'static str
+fn kind_name(kind: StopKind) -> &'static str
     ensures { result.now ≡ kind_text kind }
 {
-    if kind == 0 { "pickup" } else { "drop" }
+    match kind {
+        StopKind::Pickup => "pickup",
+        StopKind::DropOff => "drop",
+    }
 }
 
 /// Writes a stop after a mark.
@@ -100,7 +92,7 @@ fn write_stop<W: fmt::Write>(f: &mut fmt::Formatter<W>, mark: &str, visit: Visit
         kind,
         second,
     } = visit;
-    let name = kind_name(kind);
+    let name = kind_name(kind_told(kind));
     write!(f, "{mark}{booking} {name} {second}")
 }
 
@@ -141,34 +133,26 @@ fn write_itinerary<W: fmt::Write>(f: &mut fmt::Formatter<W>, itinerary: Itinerar
     write_stops(f, &visits[0..used])
 }
 
-/// Writes the load, the two time windows and the ride limit of a promise.
-fn write_promise<W: fmt::Write>(f: &mut fmt::Formatter<W>, promise: Promise) -> fmt::Result
-    ensures { WritesOnOk W.Write.write_str_gives f.old result (promise_text promise) f.new }
+/// Writes what an accepted call reports.
+fn write_report<W: fmt::Write>(f: &mut fmt::Formatter<W>, report: Report) -> fmt::Result
+    ensures { WritesOnOk W.Write.write_str_gives f.old result (report_text report) f.new }
 {
-    write!(
-        f,
-        "load {} {} pickup {} to {} drop {} to {} ride {}",
-        promise.load.first,
-        promise.load.second,
-        promise.pickup.opens,
-        promise.pickup.closes,
-        promise.dropoff.opens,
-        promise.dropoff.closes,
-        promise.ride_limit
-    )
-}
-
-/// Writes where a booking went.
-fn write_booked<W: fmt::Write>(f: &mut fmt::Formatter<W>, booked: Booked) -> fmt::Result
-    ensures { WritesOnOk W.Write.write_str_gives f.old result (booked_text booked) f.new }
-{
-    let Booked {
-        van,
-        price,
-        pickup,
-        dropoff,
-    } = booked;
-    write!(f, "van {van} price {price} pickup {pickup} drop {dropoff}")
+    match report {
+        Report::Done => write!(f, "done"),
+        Report::Booked(
+            Booked {
+                van,
+                price,
+                pickup,
+                dropoff,
+            },
+        ) => write!(f, "van {van} price {price} pickup {pickup} drop {dropoff}"),
+        Report::Served { kind, late, over } => {
+            let name = kind_name(kind);
+            write!(f, "{name} late {late} over {over}")
+        }
+        Report::Listed(itinerary) => write_itinerary(f, itinerary),
+    }
 }
 
 impl fmt::Display for Reply {
@@ -176,29 +160,9 @@ impl fmt::Display for Reply {
 
     fn fmt<W: fmt::Write>(&self, f: &mut fmt::Formatter<W>) -> fmt::Result {
         match *self {
-            Reply::Nothing => Ok(()),
-            Reply::NotUnderstood => write!(f, "not understood"),
+            Reply::Plain(reply) => write!(f, "{reply}"),
             Reply::Help => write_help(f),
-            Reply::Done => write!(f, "done"),
-            Reply::Refused { number, detail: 0 } => write!(f, "refused {number}"),
-            Reply::Refused { number, detail } => write!(f, "refused {number} detail {detail}"),
-            Reply::Promised(promise) => write_promise(f, promise),
-            Reply::Booked(booked) => write_booked(f, booked),
-            Reply::Served { kind, late, over } => write_served(f, kind, late, over),
-            Reply::Listed(itinerary) => write_itinerary(f, itinerary),
+            Reply::Reported(report) => write_report(f, report),
         }
     }
-}
-
-/// Writes how a stop was served.
-fn write_served<W: fmt::Write>(
-    f: &mut fmt::Formatter<W>,
-    kind: u32,
-    late: u32,
-    over: u32,
-) -> fmt::Result
-    ensures { WritesOnOk W.Write.write_str_gives f.old result (served_text kind late over) f.new }
-{
-    let name = kind_name(kind);
-    write!(f, "{name} late {late} over {over}")
 }

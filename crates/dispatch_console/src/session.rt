@@ -1,7 +1,7 @@
 //! A day from the time on that its dispatcher runs.
 ghost use Rattle.std.specs.Prelude.{◌≡◌};
 
-use crate::Tally;
+use console::Tally;
 use dispatcher::Dispatcher;
 use growth::Ground;
 use orders::Node;

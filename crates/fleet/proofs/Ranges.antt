@@ -11,7 +11,8 @@ use Rattle.orders.specs.declared.Booking.TheVariants.{Waiting, Aboard}
 use Rattle.orders.specs.declared.Journey.{Journey}
 use Rattle.orders.specs.declared.Stop.{Stop}
 use Rattle.fleet.specs.declared.state.State.{State}
-use Rattle.fleet.specs.Quotes.{figured, over, quoted}
+use Rattle.quotes.specs.Quotes.{figured, over}
+use Rattle.fleet.specs.Quotes.{or_refused, quoted}
 use Rattle.fleet.specs.Terms.{Terms}
 use Rattle.fleet.specs.States
 use Rattle.fleet.specs.SoundTest.{is_sound_stop, is_sound_journey, is_sound_booking, is_sound_bookings}
@@ -89,13 +90,13 @@ pub quoted_places : (places : ℕ) (trip : ℕ → ℕ → ℕ) (promise : List 
     (from < places) × (to < places) × (promise figures (trip from to) ≡ Ok p)
 quoted_places places trip promise from to figures p e = by (between places trip from to) refl e
   where
-    by : (o : Option ℕ) → between places trip from to ≡ o → over places promise from to figures o ≡ Ok p → (from < places) × (to < places) × (promise figures (trip from to) ≡ Ok p)
+    by : (o : Option ℕ) → between places trip from to ≡ o → or_refused (over places promise from to figures o) ≡ Ok p → (from < places) × (to < places) × (promise figures (trip from to) ≡ Ok p)
     by None f h = absurd (never h)
     by (Some direct) f h =
         let k = known_leg places trip from to direct f in
         (k.0, k.1, subst (λ d. promise figures d ≡ Ok p) k.2 (kept (promise figures direct) h))
       where
-        kept : (r : Result Promise BadFigure) → figured r ≡ Ok p → r ≡ Ok p
+        kept : (r : Result Promise BadFigure) → or_refused (figured r) ≡ Ok p → r ≡ Ok p
         kept (Ok q) h = let g : q ≡ p = cc in ap (λ x. Ok x) g
         kept (Err bad) h = absurd (never h)
 

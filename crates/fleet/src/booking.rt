@@ -5,11 +5,11 @@ ghost use Rattle.fleet.specs.Terms.{terms_of};
 ghost use Rattle.fleet.specs.States.{is_van, open_bookings, requested, taking, taken};
 ghost use Rattle.fleet.specs.SoundTest.{is_sound};
 
-use crate::quote::promise_for;
 use crate::slots::insert_booking;
 use crate::{Refusal, State, Van};
 use growth::Ground;
 use orders::{Booking, Journey, Stop};
+use quotes::quote;
 use roads::Roads;
 use stowage::{Stowage, require};
 
@@ -42,7 +42,7 @@ impl State {
     {
         require(is_number(number), Refusal::BadNumber)?;
         require(self.holder(number).is_none(), Refusal::AlreadyOpen)?;
-        let promise = promise_for(ground.roads, ground.rule, from, to, figures)?;
+        let promise = quote(ground.roads, ground.rule, from, to, figures)?;
         Ok(Booking::Waiting {
             pickup: Stop {
                 place: from,

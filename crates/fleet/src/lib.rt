@@ -10,7 +10,6 @@ mod slots;
 mod state;
 
 pub use call::{Answer, Booked, Call, Offer, Report};
-pub use quote::promise_for;
 pub use refusal::Refusal;
 pub use slots::{Slots, find_booking, insert_booking, remove_booking, serve_booking};
 pub use state::{State, Van};

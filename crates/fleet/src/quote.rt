@@ -1,30 +1,17 @@
-//! What a booking would be promised.
+//! A fault of a quote refuses the booking that asks for it.
 ghost use Rattle.std.specs.Prelude.{◌≡◌};
-ghost use Rattle.fleet.specs.Quotes.{quoted};
+ghost use Rattle.fleet.specs.Quotes.{fault_refusal};
 
 use crate::Refusal;
-use roads::Roads;
-use stowage::{Promise, Stowage};
+use quotes::QuoteFault;
 
-/// What a booking from one place to another with these figures would be promised, or the first fault of its places, then
-/// of its figures.
-pub fn promise_for<R: Roads, S: Stowage>(
-    roads: &R,
-    rule: &S,
-    from: u32,
-    to: u32,
-    figures: [u32; 6],
-) -> Result<Promise, Refusal>
-    ensures { result ≡ quoted (R.Roads.places roads.now) (R.Roads.trip roads.now) (S.Stowage.promise rule.now) from to figures }
-{
-    let Some(direct) = roads.seconds(from, to) else {
-        let place = if from < roads.places() { to } else { from };
-        return Err(Refusal::NoSuchPlace { place });
-    };
-    match rule.promise(figures, direct) {
-        Ok(promise) => Ok(promise),
-        Err(bad) => Err(Refusal::BadFigure {
-            position: bad.position,
-        }),
+impl From<QuoteFault> for Refusal {
+    ghost from_gives = { λ fault refusal. refusal ≡ fault_refusal fault };
+
+    fn from(fault: QuoteFault) -> Refusal {
+        match fault {
+            QuoteFault::Place(place) => Refusal::NoSuchPlace { place },
+            QuoteFault::Figure(position) => Refusal::BadFigure { position },
+        }
     }
 }

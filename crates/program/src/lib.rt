@@ -1,114 +1,82 @@
 //! The day program: reads lines, prints answers.
 #![tactic(auto)]
 
-use dispatch_console::{Command, Desk, Reply, Rule, Session, Step, Tally, read_command};
+ghost use Rattle.std.specs.Prelude.{◌≡◌, IfOk, IfNone};
+
+use console::{Rule, Tally};
+use dispatch_console::{Desk, NotBegun, Reply, Session, Site, Size, Step, read_command};
 use growth::Ground;
-use roads::AnyRoads;
 use std::io;
-use std::io::{BufRead, BufReader};
+use std::io::{BufRead, BufReader, Split};
 use stowage::{Parcels, Passengers, Stowage};
-
-/// The byte that ends a line.
-const NEWLINE: u8 = b'\n';
-
-/// Reads the next line, and what it asks for; `None` at the end of input.
-fn next_command<B: BufRead>(rt: &HostRuntime, input: &mut B) -> io::Result<Option<Command>> {
-    let heap = rt.alloc();
-    let mut line = Vec::new(heap);
-    if input.read_until(NEWLINE, &mut line)? == 0 {
-        return Ok(None);
-    }
-    if line.last() == Some(&NEWLINE) {
-        line.pop();
-    }
-    Ok(Some(read_command(heap, &line)?))
-}
 
 /// Prints a reply, unless there is nothing to say.
 fn answer(rt: &HostRuntime, reply: Reply) -> io::Result<()> {
     match reply {
-        Reply::Nothing => Ok(()),
+        Reply::Plain(console::Reply::Nothing) => Ok(()),
         reply => println!(rt; "{reply}"),
     }
 }
 
-/// Makes a dispatcher, and attends to lines until the end of input. Says whether it was made: else the refusal is told.
-fn run_session<S: Stowage, B: BufRead>(
+/// Makes a dispatcher under a rule, and attends to the lines to their end. Gives the count of the calls, or tells why no
+/// dispatcher was made, and leaves the lines unread.
+fn run_session<S: Stowage, B: BufRead + Drop>(
     rt: &HostRuntime,
-    input: &mut B,
-    ground: Ground<'_, AnyRoads, S>,
-    nodes: Option<u32>,
-    vans: u32,
-    open_limit: u32,
-) -> io::Result<bool> {
-    let mut session = match Session::begin(rt.alloc(), ground, nodes, vans, open_limit)? {
-        Ok(session) => session,
-        Err(refusal) => {
-            answer(rt, refusal)?;
-            return Ok(false);
-        }
+    lines: &mut Split<B>,
+    site: Site<'_>,
+    rule: &S,
+    size: Size,
+) -> io::Result<Option<Tally>>
+    ensures { IfOk result (λ tally. IfNone tally (lines.new ≡ lines.old)) }
+{
+    let heap = rt.alloc();
+    let ground = Ground {
+        roads: site.roads,
+        rule,
     };
-    answer(rt, Reply::Done)?;
-    for _ in 0..u64::MAX {
-        let Some(command) = next_command(rt, input)? else {
-            break;
-        };
-        answer(rt, session.obey(command))?;
+    let mut session = match Session::begin(heap, ground, site.nodes, size) {
+        Ok(session) => session,
+        Err(NotBegun::Refused(refusal)) => {
+            answer(rt, refusal.into())?;
+            return Ok(None);
+        }
+        Err(NotBegun::OutOfMemory(error)) => return Err(error.into()),
+    };
+    answer(rt, console::Reply::Done.into())?;
+    for line in lines {
+        answer(rt, session.obey(read_command(heap, &line?)?))?;
     }
-    println!(rt; "{}", session.tally())?;
-    Ok(true)
+    Ok(Some(session.tally()))
 }
 
-/// Makes the dispatcher for which the desk is set up, and runs it to the end of input, unless it is refused.
-fn make<B: BufRead>(
+/// Makes the dispatcher for which the desk is set up, and runs it to the end of the lines, unless it is refused.
+fn make<B: BufRead + Drop>(
     rt: &HostRuntime,
-    input: &mut B,
-    desk: &Desk,
-    vans: u32,
-    open_limit: u32,
-) -> io::Result<bool> {
-    let Some(site) = desk.site() else {
-        return Ok(false);
-    };
+    lines: &mut Split<B>,
+    site: Site<'_>,
+    size: Size,
+) -> io::Result<Option<Tally>>
+    ensures { IfOk result (λ tally. IfNone tally (lines.new ≡ lines.old)) }
+{
     match site.rule {
-        Rule::Passengers => run_session(
-            rt,
-            input,
-            Ground {
-                roads: site.roads,
-                rule: &Passengers,
-            },
-            site.nodes,
-            vans,
-            open_limit,
-        ),
-        Rule::Parcels => run_session(
-            rt,
-            input,
-            Ground {
-                roads: site.roads,
-                rule: &Parcels,
-            },
-            site.nodes,
-            vans,
-            open_limit,
-        ),
+        Rule::Passengers => run_session(rt, lines, site, &Passengers, size),
+        Rule::Parcels => run_session(rt, lines, site, &Parcels, size),
     }
 }
 
 /// Reads a day from standard input, a line at a time, and prints what each line is answered and the count of its calls.
 pub fn run(rt: &HostRuntime) -> io::Result<()> {
-    let mut input = BufReader::new(rt.alloc(), rt.stdin())?;
+    let heap = rt.alloc();
+    let mut lines = BufReader::new(heap, rt.stdin())?.split(heap, b'\n');
     let mut desk = Desk::new();
-    for _ in 0..u64::MAX {
-        let Some(command) = next_command(rt, &mut input)? else {
-            break;
-        };
-        match desk.obey(command) {
+    while let Some(line) = lines.next() {
+        match desk.obey(read_command(heap, &line?)?) {
             Step::Answered(reply) => answer(rt, reply)?,
-            Step::Make { vans, open_limit } => {
-                if make(rt, &mut input, &desk, vans, open_limit)? {
-                    return Ok(());
+            Step::Make(size) => {
+                if let Some(site) = desk.site()
+                    && let Some(tally) = make(rt, &mut lines, site, size)?
+                {
+                    return println!(rt; "{tally}");
                 }
             }
         }

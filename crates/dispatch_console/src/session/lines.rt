@@ -1,32 +1,33 @@
 //! How a running day begins, and what its lines lead to.
-ghost use Rattle.std.specs.Prelude.{◌≡◌, replicate, IfOk, Err, MatchResult};
+ghost use Rattle.std.specs.Prelude.{◌≡◌, replicate, IfOk, MatchResult};
 ghost use Rattle.orders.specs.Slabs.{blank};
 ghost use Rattle.fleet.specs.Terms.{terms_of};
 ghost use Rattle.growth.specs.Grounds.{rules_of};
-ghost use Rattle.outcomes.specs.Outcomes.{make_call, Made};
-ghost use Rattle.dispatch_console.specs.Replies.{refusal_reply};
-ghost use Rattle.dispatch_console.specs.Tallies.{no_calls};
+ghost use Rattle.outcomes.specs.Outcomes.{Made};
+ghost use Rattle.console.specs.Tallies.{no_calls};
+ghost use Rattle.console.specs.Meaning.{meaning as plain_meaning};
 ghost use Rattle.dispatch_console.specs.Meaning.{meaning};
-ghost use Rattle.dispatch_console.specs.Sessions.{moment, Attends, Called, nodes_given};
+ghost use Rattle.dispatch_console.specs.Sessions.{moment, Attends, attended, Called, nodes_given, Prevents};
 
 use super::Session;
-use crate::desk::quote;
-use crate::{Command, Reply, Tally};
+use crate::{Command, NotBegun, Reply, Size};
+use console::Tally;
 use dispatcher::{Dispatcher, nodes_needed};
-use fleet::{Call, Refusal};
+use fleet::Call;
 use growth::Ground;
 use orders::Node;
+use quotes::quote;
 use roads::Roads;
 use std::alloc::{AllocError, Global};
 use stowage::Stowage;
 
 /// How many nodes a dispatcher is handed: those that were asked for, else just enough.
-fn node_count(asked: Option<u32>, vans: u32, open_limit: u32) -> usize
-    ensures { result ≡ nodes_given asked vans open_limit }
+fn node_count(asked: Option<u32>, size: Size) -> usize
+    ensures { result ≡ nodes_given asked size }
 {
     match asked {
         Some(count) => count as usize,
-        None => nodes_needed(vans, open_limit),
+        None => nodes_needed(size.vans, size.open_limit),
     }
 }
 
@@ -38,28 +39,25 @@ fn blank_nodes(heap: Global, count: usize) -> Result<Vec<Node>, AllocError>
 }
 
 impl<'a, R: Roads, S: Stowage> Session<'a, R, S> {
-    /// Makes a dispatcher with node memory of its own, or tells why it is refused.
+    /// Makes a dispatcher with node memory of its own, or tells why there is none.
     pub fn begin(
         heap: Global,
         ground: Ground<'a, R, S>,
         nodes: Option<u32>,
-        vans: u32,
-        open_limit: u32,
-    ) -> Result<Result<Session<'a, R, S>, Reply>, AllocError>
-        ensures { IfOk result (λ begun. MatchResult begun
-            (λ s. (s.lent ≡ ground.entry) × Made (rules_of R.Roads S.Stowage ground.entry) vans open_limit (replicate (nodes_given nodes vans open_limit) blank) (moment s).state (moment s).memory × ((moment s).tally ≡ no_calls))
-            (λ reply. (f : Refusal) × (make_call vans open_limit (nodes_given nodes vans open_limit) ≡ Err f) × (reply ≡ refusal_reply f))) }
+        size: Size,
+    ) -> Result<Session<'a, R, S>, NotBegun>
+        ensures { MatchResult result
+            (λ s. (s.lent ≡ ground.entry) × Made (rules_of R.Roads S.Stowage ground.entry) size.vans size.open_limit (replicate (nodes_given nodes size) blank) (moment s).state (moment s).memory × ((moment s).tally ≡ no_calls))
+            (λ why. Prevents size (nodes_given nodes size) why) }
     {
-        let mut memory = blank_nodes(heap, node_count(nodes, vans, open_limit))?;
-        match Dispatcher::new(ground, vans, open_limit, &mut memory) {
-            Ok(dispatcher) => Ok(Ok(Session {
-                lent: ground,
-                dispatcher,
-                nodes: memory,
-                tally: Tally::new(),
-            })),
-            Err(refusal) => Ok(Err(Reply::of_refusal(refusal))),
-        }
+        let mut memory = blank_nodes(heap, node_count(nodes, size))?;
+        let dispatcher = Dispatcher::new(ground, size.vans, size.open_limit, &mut memory)?;
+        Ok(Session {
+            lent: ground,
+            dispatcher,
+            nodes: memory,
+            tally: Tally::new(),
+        })
     }
 
     /// Does what a line asks for, and answers it.
@@ -68,17 +66,30 @@ impl<'a, R: Roads, S: Stowage> Session<'a, R, S> {
         ensures attends { Attends (terms_of R.Roads S.Stowage self.old.lent) (moment self.old) (meaning command) (moment self.new) result }
     {
         match command {
-            Command::Nothing => Reply::Nothing,
+            Command::Plain(command) => self.attend(command).into(),
             Command::Help => Reply::Help,
-            Command::Quote { from, to, figures } => quote(
+            Command::Nodes(_) | Command::Make(_) => console::Reply::NotUnderstood.into(),
+            Command::Call(call) => self.call(call),
+        }
+    }
+
+    /// Answers what a day without a dispatcher is asked too.
+    fn attend(&self, command: console::Command) -> console::Reply
+        ensures { result ≡ attended (terms_of R.Roads S.Stowage self.now.lent) (plain_meaning command) }
+    {
+        match command {
+            console::Command::Nothing => console::Reply::Nothing,
+            console::Command::Quote { from, to, figures } => quote(
                 self.lent.roads,
                 self.lent.rule,
                 from,
                 to,
                 figures,
-            ),
-            Command::Call(call) => self.call(call),
-            _ => Reply::NotUnderstood,
+            ).into(),
+            console::Command::Unclear
+            | console::Command::Table { .. }
+            | console::Command::Grid { .. }
+            | console::Command::Rule(_) => console::Reply::NotUnderstood,
         }
     }
 
@@ -88,8 +99,8 @@ impl<'a, R: Roads, S: Stowage> Session<'a, R, S> {
         ensures called { Called (terms_of R.Roads S.Stowage self.old.lent) call (moment self.old) (moment self.new) result }
     {
         let answer = self.dispatcher.obey(&mut self.nodes, call);
-        self.tally.count(answer);
-        Reply::of_answer(answer)
+        self.tally.count(answer.is_ok());
+        answer.into()
     }
 
     /// The calls so far, counted.
