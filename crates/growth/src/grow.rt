@@ -8,7 +8,6 @@ ghost use Rattle.growth.specs.Memory.{pasted};
 
 use crate::guide::{Guide, branch_off};
 use crate::tally::tally_along;
-use crate::walk::kind;
 use crate::{Fresh, Ground, Position};
 use orders::Node;
 use roads::Roads;
@@ -73,7 +72,7 @@ fn try_next<R: Roads, S: Stowage>(
     Some(Growth {
         node: Node {
             booking: booking.number(),
-            kind: kind(booking),
+            kind: booking.kind().number(),
             depth,
             span: 1 + below.count,
             second: branch.second,

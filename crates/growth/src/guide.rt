@@ -99,7 +99,7 @@ pub(crate) fn branch_off<R: Roads, S: Stowage>(
     ensures { Branches (rules_of R.Roads S.Stowage ground.entry) fresh nodes.now guide position booking result }
 {
     match look_on(nodes, fresh, guide, booking.number()) {
-        Some(guide) => match step(ground, position, i, booking) {
+        Some(guide) => match step(ground, position, i) {
             Some(visit) => Some(Branch {
                 second: visit.second,
                 position: visit.position,

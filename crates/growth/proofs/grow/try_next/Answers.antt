@@ -1,5 +1,6 @@
 -- The next booking gives its node and what grows below it, or nothing.
-use Rattle.std.proofs.Common.{refl, ap, arith}
+use Rattle.std.proofs.Common.{refl, ap, ◌∙◌, arith}
+use Rattle.orders.specs.Bookings.{kind_number}
 use Rattle.orders.specs.Trees.{nodes}
 use Rattle.growth.specs.Grounds.{rules_of}
 use Rattle.growth.proofs.Turns.{small, gap, refused, dead_end, one_node}
@@ -36,7 +37,7 @@ returns g c =
       owing =
           one_node (rules_of g.R.Roads g.S.Stowage c.args.ground) c.args.fresh c.args.nodes.now c.args.frame.guide c.args.frame.position c.requires.sound c.args.frame.next c.requires.next
           c.in-Some.booking c.in-Some.is c.in-Some-branch_off.branch branched c.tally_along-below.result c.tally_along-below.ensures
-          c.in-Some-reached._cost c.in-Some-reached.is c.args.depth c.number.result c.kind.result c.number.ensures c.kind.ensures;
+          c.in-Some-reached._cost c.in-Some-reached.is c.args.depth c.number.result c.number-2.result c.number.ensures (c.number-2.ensures ∙ ap kind_number c.kind.ensures);
       sound = branched.sound;
       inside = branched.inside;
       next = refl;
