@@ -27,8 +27,8 @@ most g fresh old p sound = grown_fits g fresh old 4 (walk_of p) sound.ascending 
 
 module _ (g : Rules) (fresh : Fresh) (old : List Node) (p : Position) where
   -- so neither has a root too many below it, nor a tree so far too many in all
-  pub root_small : (i : ℕ) (x : Root) → IsRoot g fresh old p i x → x.below ≤ 7364
-  root_small i x root = let m = most g fresh x.old.now x.visit.position root.sound in let c = root.below.count in omega arith
+  pub root_small : {i : ℕ} (x : Root) → IsRoot g fresh old p i x → x.below ≤ 7364
+  root_small x root = let m = most g fresh x.old.now x.visit.position root.sound in let c = root.below.count in omega arith
 
   pub small_so_far : Sound p → (bs : List Booking) (count : ℕ) (least : Option ℕ) → Tallied g fresh old (walk_of p) bs count least → count ≤ 7364
   small_so_far sound bs count least t =

@@ -35,6 +35,17 @@ impl Slabs {
     {
         &nodes[self.own..self.own + self.size]
     }
+
+    /// The first nodes of the working slab go into the own slab, then blanks; the working slab is blank again.
+    fn take_over(self, nodes: &mut [Node], count: usize)
+        requires laid { Laid nodes.old self }
+        requires fits { count ≤ self.size }
+        ensures { Replaced nodes.old self (row nodes.old self.work (self.work + count)) nodes.new }
+    {
+        nodes.copy_within(self.work..self.work + count, self.own);
+        clear(nodes, self.own + count, self.size - count);
+        clear(nodes, self.work, self.size);
+    }
 }
 
 /// The slabs of a van, counted from 0, in a memory that has one slab for each van and the working slab behind them all.
@@ -56,17 +67,6 @@ pub fn clear(nodes: &mut [Node], at: usize, count: usize)
     ensures { nodes.new ≡ pasted nodes.old at (replicate count blank) }
 {
     nodes[at..at + count].fill(Node::BLANK);
-}
-
-/// The first nodes of the working slab go into the own slab, then blanks; the working slab is blank again.
-fn take_over(nodes: &mut [Node], slabs: Slabs, count: usize)
-    requires laid { Laid nodes.old slabs }
-    requires fits { count ≤ slabs.size }
-    ensures { Replaced nodes.old slabs (row nodes.old slabs.work (slabs.work + count)) nodes.new }
-{
-    nodes.copy_within(slabs.work..slabs.work + count, slabs.own);
-    clear(nodes, slabs.own + count, slabs.size - count);
-    clear(nodes, slabs.work, slabs.size);
 }
 
 /// A van has one booking more, the clock has run on, it is bound elsewhere, or its tree is to grow anew: its slab gets the
@@ -93,7 +93,7 @@ pub fn regrow<R: Roads, S: Stowage>(
         position,
     };
     let count = tree.write(1, work);
-    take_over(nodes, slabs, count);
+    slabs.take_over(nodes, count);
     count
 }
 
@@ -114,13 +114,14 @@ pub fn prune<R: Roads, S: Stowage>(
     ensures exact { Suffices (rules_of R.Roads S.Stowage ground.entry) Nobody (below_root served (own_slab nodes.old slabs)) (walk_of position) → Holds (rules_of R.Roads S.Stowage ground.entry) nodes.new slabs (walk_of position) }
 {
     let (vans, work) = nodes.split_at_mut(slabs.work);
+    let own = slabs.own_nodes(vans);
     let tree = Growth {
         ground,
-        old: find_child(slabs.own_nodes(vans), served).unwrap_or(&[]),
+        old: find_child(own, served).unwrap_or(&[]),
         fresh: Fresh::Nobody,
         position,
     };
     let count = tree.write(1, work);
-    take_over(nodes, slabs, count);
+    slabs.take_over(nodes, count);
     count
 }

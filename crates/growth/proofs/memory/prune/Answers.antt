@@ -24,8 +24,8 @@ take_over-requires-clause-fits g c =
 pub returns : goal.returns
 returns g c =
     let old = below_root c.args.served (own_slab c.args.nodes.now c.args.slabs) in
-    let own = c.own_nodes.ensures ∙ own_before c.args.nodes.now c.args.slabs c.requires.laid c.split_at_mut-vans.result.0.now c.split_at_mut-vans.ensures.front in
-    let read = ap (λ h. h.now) c.unwrap_or.ensures ∙ below_found c.args.served c.own_nodes.result.now c.find_child.result _ refl c.find_child.ensures ∙ ap (below_root c.args.served) own in
+    let own = c.own_nodes-own.ensures ∙ own_before c.args.nodes.now c.args.slabs c.requires.laid c.split_at_mut-vans.result.0.now c.split_at_mut-vans.ensures.front in
+    let read = ap (λ h. h.now) c.unwrap_or.ensures ∙ below_found c.args.served c.own_nodes-own.result.now c.find_child.result _ refl c.find_child.ensures ∙ ap (below_root c.args.served) own in
     let all = regrown (rules_of g.R.Roads g.S.Stowage c.args.ground) Nobody c.args.position c.requires.sound c.args.nodes.now c.args.slabs c.requires.laid c.requires.roomy c.unwrap_or.result.now
     (record { roads = g.met.R.Roads.lawful c.args.ground.roads.now; exchange = g.met.S.Stowage.exchange c.args.ground.rule.now }) old read
     c.split_at_mut-vans.result.0.now c.split_at_mut-vans.result.1.now c.write-count.new.nodes c.take_over.new.nodes c.write-count.result

@@ -13,14 +13,14 @@ tally-returns-then-nothing_open g t c =
 
 pub tally-overflow_add-count : goal.tally-overflow_add-count
 tally-overflow_add-count g t c =
-    let few = root_small (rules_of g.R.Roads g.S.Stowage c.args.self.ground) c.args.self.fresh c.args.self.old.now c.args.self.position c.loop-i.i c.in-Some.root c.in-Some.ensures in
+    let few = root_small (rules_of g.R.Roads g.S.Stowage c.args.self.ground) c.args.self.fresh c.args.self.old.now c.args.self.position c.in-Some.root c.in-Some.ensures in
     omega arith
 
 pub tally-overflow_add-count-in-Some : goal.tally-overflow_add-count-in-Some
 tally-overflow_add-count-in-Some g t c =
     let rules = rules_of g.R.Roads g.S.Stowage c.args.self.ground in
     let self = c.args.self in
-    let few = root_small rules self.fresh self.old.now self.position c.loop-i.i c.in-Some.root c.in-Some.ensures in
+    let few = root_small rules self.fresh self.old.now self.position c.in-Some.root c.in-Some.ensures in
     let so_far = small_so_far rules self.fresh self.old.now self.position c.requires (compact (drop c.loop-i.i self.position.bookings)) c.loop-i.count c.loop-i.least c.loop-i.invariant in
     omega arith
 

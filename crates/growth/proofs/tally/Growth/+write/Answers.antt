@@ -12,7 +12,7 @@ loop-i-init g t c = nothing_yet (rules_of g.R.Roads g.S.Stowage c.args.self.grou
 
 pub overflow_add-nodes : goal.overflow_add-nodes
 overflow_add-nodes g t c =
-    let few = root_small (rules_of g.R.Roads g.S.Stowage c.args.self.ground) c.args.self.fresh c.args.self.old.now c.args.self.position c.loop-i.i c.in-Some.root c.in-Some.ensures in
+    let few = root_small (rules_of g.R.Roads g.S.Stowage c.args.self.ground) c.args.self.fresh c.args.self.old.now c.args.self.position c.in-Some.root c.in-Some.ensures in
     omega arith
 
 pub loop-i-preserved : goal.loop-i-preserved
