@@ -20,6 +20,7 @@ use stowage::Stowage;
 use van_slab::OpenLimit;
 
 /// Where a van's own slab and the working slab behind it begin, and how many nodes each has.
+// Kept: that they lie in node memory is asked by each call, since the memory is handed to each anew.
 #[derive(Clone, Copy)]
 pub struct Slabs {
     pub own: usize,

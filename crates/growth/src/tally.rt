@@ -21,6 +21,8 @@ pub struct Tally {
 }
 
 /// A tree to grow: on a ground, along the nodes of an old tree, to which some bookings are new, from a position on.
+// Kept: that the position is sound is asked by each call: as a ghost field it needs a proof that it has one proof, and
+// takes away `..self`.
 #[derive_where(Clone, Copy)]
 pub(crate) struct Growth<'a, R, S> {
     pub ground: Ground<'a, R, S>,
