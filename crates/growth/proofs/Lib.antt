@@ -5,9 +5,9 @@ pub mod Branched
 pub mod Counts
 pub mod Tallies
 pub mod Turns
+pub mod Writing
 pub mod Changed
 pub mod Surveyed
 pub mod Pasted
-pub mod Stacks
 pub mod Replacing
 pub mod Places

@@ -1,6 +1,6 @@
 -- Shows what memory holds once rows are written to it, one after the other.
 use Rattle.std.proofs.Common.{◌≡◌, ℕ, suc, ◌+◌, ◌-◌, ◌<◌, ◌≤◌, List, [], ◌∷◌, ◌++◌, length, get_or, take, drop, set, sym, refl, ap, ◌∙◌, ⊎_elim, append_assoc, arith}
-use Rattle.std.proofs.lemmas.List.{length-take, length-drop, length-append, get_or_append_left, get_or-append_right, get_or-take, get_or-drop, drop_more, take_more, take_more_set, drop-set-lt, set_at, same_lists, drop_at, take_at, take-append-drop, drop-drop}
+use Rattle.std.proofs.lemmas.List.{length-take, length-drop, length-append, get_or_append_left, get_or-append_right, get_or-take, get_or-drop, take_more_set, drop-set-lt, same_lists, drop_at, take_at, take-append-drop, drop-drop}
 use Rattle.std.proofs.lemmas.Bool.{cases_lt}
 use Rattle.orders.specs.declared.Node.{Node}
 use Rattle.growth.specs.Guides.{row}
@@ -40,25 +40,12 @@ module _ (memory : List Node) (at : ℕ) (xs : List Node) (fits : at + length xs
       get_or-append_right (take at memory) (xs ++ drop (at + length xs) memory) at k d front h
       ∙ get_or_append_left xs (drop (at + length xs) memory) d (k - at) (omega arith)
 
-  pub get_behind : (k : ℕ) (d : Node) → at + length xs ≤ k → get_or (pasted memory at xs) k d ≡ get_or memory k d
+  get_behind : (k : ℕ) (d : Node) → at + length xs ≤ k → get_or (pasted memory at xs) k d ≡ get_or memory k d
   get_behind k d h =
       get_or-append_right (take at memory) (xs ++ drop (at + length xs) memory) at k d front (omega arith)
       ∙ get_or-append_right xs (drop (at + length xs) memory) (length xs) (k - at) d refl (omega arith)
       ∙ get_or-drop (at + length xs) memory (k - at - length xs) d
       ∙ ap (λ i. get_or memory i d) (let e : at + length xs + (k - at - length xs) ≡ k = omega arith in e)
-
-  -- one node more behind those written
-  pasted_push : (x : Node) → at + length xs < length memory → set (pasted memory at xs) (at + length xs) x ≡ pasted memory at (xs ++ x ∷ [])
-  pasted_push x l =
-      let p = length-append (take at memory) xs in
-      let f = front in
-      let q = length-append xs (x ∷ []) in
-      ap (λ r. set (take at memory ++ (xs ++ r)) (at + length xs) x) (drop_more memory (at + length xs) x l)
-      ∙ ap (λ r. set r (at + length xs) x) (sym (append_assoc (take at memory) xs (get_or memory (at + length xs) x ∷ drop (at + length xs + 1) memory)))
-      ∙ set_at (take at memory ++ xs) (get_or memory (at + length xs) x) (drop (at + length xs + 1) memory) x (at + length xs) (omega arith)
-      ∙ append_assoc (take at memory) xs (x ∷ drop (at + length xs + 1) memory)
-      ∙ ap (λ r. take at memory ++ r) (sym (append_assoc xs (x ∷ []) (drop (at + length xs + 1) memory)))
-      ∙ ap (λ n. take at memory ++ ((xs ++ x ∷ []) ++ drop n memory)) (let e : at + length xs + 1 ≡ at + length (xs ++ x ∷ []) = omega arith in e)
 
   -- what was written is read
   pub row_pasted : row (pasted memory at xs) at (at + length xs) ≡ xs
@@ -88,10 +75,6 @@ module _ (memory : List Node) (at : ℕ) (xs : List Node) (fits : at + length xs
       ∙ ap (drop (from - (at + length xs))) tail
       ∙ drop-drop (from - (at + length xs)) (at + length xs) memory
       ∙ ap (λ n. drop n memory) e')
-
--- one node more, by how many were written
-pub pasted_set : (memory : List Node) (at n : ℕ) (xs : List Node) (x : Node) → length xs ≡ n → at + n < length memory → set (pasted memory at xs) (at + n) x ≡ pasted memory at (xs ++ x ∷ [])
-pasted_set memory at n xs x e h = ap (λ i. set (pasted memory at xs) (at + i) x) (sym e) ∙ pasted_push memory at xs (omega arith) x (omega arith)
 
 module _ (memory : List Node) (a : ℕ) (xs ys : List Node) where
   -- rows one behind the other are one row
@@ -150,17 +133,6 @@ module _ (memory : List Node) (a : ℕ) (xs ys : List Node) where
       (cases_lt k (a + length xs)))
       (cases_lt k a))
 
--- a row, node by node
+-- a row of so many nodes
 pub row_length : (memory : List Node) (a n : ℕ) → a + n ≤ length memory → length (row memory a (a + n)) ≡ n
 row_length memory a n h = let p = length-take (a + n - a) (drop a memory) in let q = length-drop a memory in omega arith
-
-pub row_none : (memory : List Node) (a : ℕ) → row memory a (a + 0) ≡ []
-row_none memory a = ap (λ n. take n (drop a memory)) (let e : a + 0 - a ≡ 0 = omega arith in e)
-
-pub row_push : (memory : List Node) (a n : ℕ) (d : Node) → a + n < length memory → row memory a (a + (n + 1)) ≡ row memory a (a + n) ++ get_or memory (a + n) d ∷ []
-row_push memory a n d h =
-    let q = length-drop a memory in
-    ap (λ i. take i (drop a memory)) (let e : a + (n + 1) - a ≡ n + 1 = omega arith in e)
-    ∙ take_more (drop a memory) n d (omega arith)
-    ∙ ap (λ x. take n (drop a memory) ++ x ∷ []) (get_or-drop a memory n d)
-    ∙ ap (λ i. take i (drop a memory) ++ get_or memory (a + n) d ∷ []) (let e : n ≡ a + n - a = omega arith in e)

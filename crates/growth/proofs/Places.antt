@@ -1,22 +1,9 @@
 -- Shows how the slabs of several vans lie in memory, and that writing those of one van leaves the others alone.
-use Rattle.std.proofs.Common.{◌≡◌, ℕ, zero, suc, ◌+◌, ◌*◌, ◌<◌, ◌≤◌, List, length, ⊎_elim, mul-le-mul_right, add-mul, mul-le-mul_left, one-mul, arith}
+use Rattle.std.proofs.Common.{◌≡◌, ℕ, ◌+◌, ◌*◌, ◌<◌, ◌≤◌, List, length, ⊎_elim, mul-le-mul_right, add-mul, one-mul, arith}
 use Rattle.std.proofs.lemmas.Bool.{cases_lt}
 use Rattle.orders.specs.declared.Node.{Node}
-use Rattle.orders.specs.Slabs.{slab_size}
 use Rattle.growth.specs.Guides.{row}
 use Rattle.growth.specs.Slabs.{slabs_at, Laid, Replaced}
-
--- no slab is larger than that of four bookings, so a slab's place is a small number
-size_small : (limit : ℕ) → slab_size limit ≤ 7364
-size_small zero = omega arith
-size_small (suc zero) = omega arith
-size_small (suc (suc zero)) = omega arith
-size_small (suc (suc (suc zero))) = omega arith
-size_small (suc (suc (suc (suc zero)))) = omega arith
-size_small (suc (suc (suc (suc (suc k))))) = omega arith
-
-pub place_small : (van limit size : ℕ) → size ≡ slab_size limit → van * size ≤ van * 7364
-place_small van limit size e = let h = size_small limit in mul-le-mul_left {m = size} {n = 7364} van (omega arith)
 
 -- a slab ends where the next one begins
 next_slab : (van size : ℕ) → (van + 1) * size ≡ van * size + size

@@ -1,6 +1,8 @@
 -- Shows that the own slab takes over what was grown in the working slab, and then holds the tree.
-use Rattle.std.proofs.Common.{◌≡◌, ℕ, ◌+◌, ◌-◌, ◌≤◌, List, [], length, take, drop, replicate, Some, None, unwrap_or, sym, refl, ap, ◌∙◌, subst, arith}
-use Rattle.std.proofs.lemmas.List.{length-append, length-replicate}
+use denote.Ref.{Bor}
+use Rattle.std.proofs.Common.{◌≡◌, ℕ, ◌+◌, ◌-◌, ◌≤◌, List, [], ◌++◌, length, take, drop, replicate, Some, None, Option, unwrap_or, sym, refl, ap, ◌∙◌, subst, append_assoc, arith}
+use Rattle.std.proofs.lemmas.List.{length-append, length-replicate, length-drop, drop-drop}
+use Rattle.std.specs.List.{copy_within}
 use Rattle.orders.specs.declared.Node.{Node}
 use Rattle.orders.specs.Rules.{Rules, Lawful}
 use Rattle.orders.specs.Walks.{Walk}
@@ -9,13 +11,16 @@ use Rattle.orders.specs.Slabs.{blank, slab}
 use Rattle.orders.specs.Growth.{seek}
 use Rattle.orders.specs.Laws.{below_root}
 use Rattle.growth.specs.declared.guide.Fresh.{Fresh}
-use Rattle.growth.specs.declared.guide.Guide.{Guide}
 use Rattle.growth.specs.declared.memory.Slabs.{Slabs}
-use Rattle.growth.specs.Guides.{row, row_at, Found, grown_row}
+use Rattle.growth.specs.declared.walk.Position.{Position}
+use Rattle.growth.specs.Positions.{compact, walk_of, Sound}
+use Rattle.growth.specs.Guides.{row, found, grown_row}
 use Rattle.growth.specs.Changes.{Suffices}
 use Rattle.growth.specs.Memory.{pasted}
-use Rattle.growth.specs.Slabs.{Laid, Replaced, Holds}
+use Rattle.growth.specs.Slabs.{own_slab, Laid, Roomy, Replaced, Holds}
 use Rattle.growth.proofs.Changed.{whole}
+use Rattle.growth.proofs.Counts.{grown_fits}
+use Rattle.growth.proofs.Rows.{row_within}
 use Rattle.growth.proofs.Pasted.{pasted_length, pasted_join, pasted_over, pasted_swap, row_pasted, row_before, row_behind, row_length}
 
 module _ (memory : List Node) (s : Slabs) (laid : Laid memory s) (xs : List Node) (fits : length xs ≤ s.size) where
@@ -77,9 +82,17 @@ module _ (memory : List Node) (s : Slabs) (laid : Laid memory s) (xs : List Node
       ∙ ap (λ m. pasted m s.work blanks) (pasted_swap memory s.own (slab s.size xs) xs s.work (omega arith) (omega arith))
       ∙ pasted_over half s.work xs blanks (omega arith) (omega arith))
 
+-- so many nodes are copied as a row
+copied : (memory : List Node) (from to count : ℕ) → from + count ≤ length memory → copy_within memory from (from + count) to ≡ pasted memory to (row memory from (from + count))
+copied memory from to count h =
+    let xs = row memory from (from + count) in
+    let long = row_length memory from count h in
+    append_assoc (take to memory) xs (drop (to + (from + count - from)) memory)
+    ∙ ap (λ n. take to memory ++ (xs ++ drop n memory)) (let e : to + (from + count - from) ≡ to + length xs = omega arith in e)
+
 -- copied, filled up with blanks, and the working slab cleared
 pub copied_over : (memory : List Node) (s : Slabs) → Laid memory s → (count : ℕ) → count ≤ s.size → (memory₁ memory₂ after : List Node) →
-    memory₁ ≡ pasted memory s.own (row memory s.work (s.work + count)) →
+    memory₁ ≡ copy_within memory s.work (s.work + count) s.own →
     memory₂ ≡ pasted memory₁ (s.own + count) (replicate (s.size - count) blank) →
     after ≡ pasted memory₂ s.work (replicate s.size blank) →
     Replaced memory s (row memory s.work (s.work + count)) after
@@ -93,27 +106,44 @@ copied_over memory s laid count fits memory₁ memory₂ after e₁ e₂ e₃ =
     (e₃
     ∙ ap (λ m. pasted m s.work (replicate s.size blank))
     (e₂
-    ∙ (λ i. pasted (e₁ i) (s.own + sym long i) (replicate (s.size - sym long i) blank))
+    ∙ (λ i. pasted ((e₁ ∙ copied memory s.work s.own count (omega arith)) i) (s.own + sym long i) (replicate (s.size - sym long i) blank))
     ∙ pasted_join memory s.own xs (replicate (s.size - length xs) blank) (omega arith)))
 
 -- the own slab then holds the tree, if the old nodes sufficed
-pub now_holds : (g : Rules) (lawful : Lawful g) (fresh : Fresh) (old : List Node) (w : Walk) (memory : List Node) (s : Slabs) (after : List Node) →
+now_holds : (g : Rules) (lawful : Lawful g) (fresh : Fresh) (old : List Node) (w : Walk) (memory : List Node) (s : Slabs) (after : List Node) →
     Replaced memory s (grown_row g fresh old w) after → Suffices g fresh old w → Holds g after s w
 now_holds g lawful fresh old w memory s after r enough = r.own ∙ ap (λ t. slab s.size (nodes 1 t)) (whole g lawful fresh old w enough)
 
--- the same along nodes that are those old nodes
-pub replaced_along : (g : Rules) (lawful : Lawful g) (fresh : Fresh) (old read : List Node) (w : Walk) (memory : List Node) (s : Slabs) (after : List Node) (count : ℕ) → read ≡ old →
-    Replaced memory s (grown_row g fresh read w) after → count ≡ length (grown_row g fresh read w) →
-    Replaced memory s (grown_row g fresh old w) after × (count ≡ length (grown_row g fresh old w)) × (Suffices g fresh old w → Holds g after s w)
-replaced_along g lawful fresh old read w memory s after count e r c =
-    let r' = subst (λ o. Replaced memory s (grown_row g fresh o w) after) e r in
-    (r', c ∙ ap (λ o. length (grown_row g fresh o w)) e, now_holds g lawful fresh old w memory s after r')
+-- the nodes before the working slab have the own slab as the memory has it
+pub own_before : (memory : List Node) (s : Slabs) → Laid memory s → (vans : List Node) → vans ≡ take s.work memory → own_slab vans s ≡ own_slab memory s
+own_before memory s laid vans v = ap (λ m. own_slab m s) v ∙ row_within memory s.work s.own (s.own + s.size) (omega arith) laid.apart
 
 -- the nodes below a root, if it was found, and none if it was not
-pub below_found : (memory : List Node) (n : ℕ) (old : List Node) (h : Guide) → Found memory (seek (length old) n old) (Some h) → row_at memory h ≡ below_root n old
-below_found memory n old h f = ap (λ o. unwrap_or o []) (sym f.0)
+pub below_found : (n : ℕ) (old : List Node) (o : Option (Bor (List Node))) (none : Bor (List Node)) → none.now ≡ [] → found o ≡ seek (length old) n old → (unwrap_or o none).now ≡ below_root n old
+below_found n old None none e f = e ∙ ap (λ o. unwrap_or o []) f
+below_found n old (Some h) none e f = ap (λ o. unwrap_or o []) f
 
-pub below_none : (memory : List Node) (n : ℕ) (old : List Node) (at : ℕ) → Found memory (seek (length old) n old) None → row memory at at ≡ below_root n old
-below_none memory n old at f =
-    let e : at - at ≡ 0 = omega arith in
-    ap (λ k. take k (drop at memory)) e ∙ ap (λ o. unwrap_or o []) (sym f)
+-- a tree grows along `read` into the working slab, and then goes into the own slab
+module _ (g : Rules) (fresh : Fresh) (p : Position) (sound : Sound p) (memory : List Node) (s : Slabs) (laid : Laid memory s) (roomy : Roomy s.size (compact p.bookings)) (read : List Node) where
+  abbrev grows : List Node
+  grows = grown_row g fresh read (walk_of p)
+
+  slab_fits : length grows ≤ s.size
+  slab_fits = let f = grown_fits g fresh read roomy.limit (walk_of p) sound.ascending roomy.few roomy.most in let e = roomy.enough in omega arith
+
+  pub work_fits_row : (work : List Node) → work ≡ drop s.work memory → length grows ≤ length work
+  work_fits_row work w = let f = slab_fits in let r = laid.room in let e = ap length w in let l = length-drop s.work memory in omega arith
+
+  pub count_fits : (count : ℕ) → count ≡ length grows → count ≤ s.size
+  count_fits count c = let f = slab_fits in omega arith
+
+  pub regrown : (lawful : Lawful g) (old : List Node) → read ≡ old → (vans work work' after : List Node) (count : ℕ) →
+      vans ≡ take s.work memory → work ≡ drop s.work memory → work' ≡ pasted work 0 grows → count ≡ length grows →
+      Replaced (vans ++ work') s (row (vans ++ work') s.work (s.work + count)) after →
+      Replaced memory s (grown_row g fresh old (walk_of p)) after × (count ≡ length (grown_row g fresh old (walk_of p))) × (Suffices g fresh old (walk_of p) → Holds g after s (walk_of p))
+  regrown lawful old same vans work work' after count v w grown c r =
+      let written : vans ++ work' ≡ pasted memory s.work grows =
+      (λ i. v i ++ (grown ∙ ap (λ m. pasted m 0 grows) w) i)
+      ∙ ap (λ rest. take s.work memory ++ (grows ++ rest)) (drop-drop (0 + length grows) s.work memory ∙ ap (λ n. drop n memory) (let e : s.work + (0 + length grows) ≡ s.work + length grows = omega arith in e)) in
+      let replaced = subst (λ o. Replaced memory s (grown_row g fresh o (walk_of p)) after) same (taken_over memory s laid grows slab_fits (vans ++ work') after count c written r) in
+      (replaced, c ∙ ap (λ o. length (grown_row g fresh o (walk_of p))) same, now_holds g lawful fresh old (walk_of p) memory s after replaced)

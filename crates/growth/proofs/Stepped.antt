@@ -1,46 +1,19 @@
 -- Shows that a step from a position is a step of its walk.
-use Rattle.std.proofs.Common.{◌≡◌, ℕ, zero, suc, ◌+◌, ◌<◌, ◌≤◌, max, Bool, true, false, ◌&&◌, ltb, leb, List, [], ◌∷◌, length, get_or, drop, set, is_some, Some, None, Option, sym, refl, ap, ◌∙◌, subst, inl, inr, ⊎_elim, arith, length-set}
-use Rattle.std.proofs.lemmas.List.{drop_more, drop_all}
+use Rattle.std.proofs.Common.{◌≡◌, ℕ, zero, suc, ◌+◌, ◌<◌, ◌≤◌, max, Bool, true, false, ◌&&◌, ltb, leb, List, [], ◌∷◌, get_or, set, Some, None, Option, sym, refl, ap, ◌∙◌, subst, inl, inr, ⊎_elim, arith, length-set}
 use Rattle.std.proofs.lemmas.Bool.{cond-true, cond-false, eq-eqb, ne_eqb, ltb-true, lt-ltb, and_parts, and_from, both_ways, cases_Bool}
 use Rattle.roads.specs.Roads.{between}
-use Rattle.stowage.specs.declared.Load.{Load}
-use Rattle.stowage.specs.Together.{onward, stowed}
-use Rattle.stowage.proofs.Together.{onward_none}
 use Rattle.orders.specs.declared.Stop.{Stop}
 use Rattle.orders.specs.declared.Booking.{Booking}
 use Rattle.orders.specs.declared.Booking.TheVariants.{Waiting, Aboard}
 use Rattle.orders.specs.Rules.{Rules}
-use Rattle.orders.specs.Bookings.{In, number_of, next_stop, served, loads, stops, Ascending}
+use Rattle.orders.specs.Bookings.{In, number_of, next_stop, served, stops, Ascending}
 use Rattle.orders.specs.Walks.{Walk, departs, leg, service, after, within_limits, Allowed}
 use Rattle.orders.specs.Trees.{step}
 use Rattle.orders.proofs.Basics.{none_some, some_same}
 use Rattle.orders.proofs.Steps.{departs_later, served_ascending, served_stops, above_in, step_cases}
 use Rattle.growth.specs.declared.walk.Position.{Position}
 use Rattle.growth.specs.declared.walk.Visit.{Visit}
-use Rattle.growth.specs.Positions.{compact, walk_of, Sound, left_of, fit_together, limits_kept, Visited}
-
--- one turn of stowing the loads aboard, from the i-th booking on; r is what all of them come to
-module _ {Hold : Type 0} (stow : Hold → Load → Option Hold) (h : Hold) (bs : List (Option Booking)) (i : ℕ) (r : Option Hold) (left : stowed stow h (loads (compact (drop i bs))) ≡ r) where
-  stowed_first : (o : Option Booking) (os : List (Option Booking)) → stowed stow h (loads (compact (o ∷ os))) ≡ onward stow (stowed stow h (loads (compact (o ∷ [])))) (loads (compact os))
-  stowed_first None os = refl
-  stowed_first (Some (Waiting pickup j)) os = refl
-  stowed_first (Some (Aboard since j)) os = refl
-
-  turn : i < length bs → (o : Option Hold) → o ≡ stowed stow h (loads (compact (get_or bs i None ∷ []))) → onward stow o (loads (compact (drop (i + 1) bs))) ≡ r
-  turn lt o e =
-      ap (λ p. onward stow p (loads (compact (drop (i + 1) bs)))) e
-      ∙ sym (stowed_first (get_or bs i None) (drop (i + 1) bs))
-      ∙ ap (λ l. stowed stow h (loads (compact l))) (sym (drop_more bs i None lt))
-      ∙ left
-
-  pub turn_some : i < length bs → (x : Hold) → Some x ≡ stowed stow h (loads (compact (get_or bs i None ∷ []))) → stowed stow x (loads (compact (drop (i + 1) bs))) ≡ r
-  turn_some lt x e = turn lt (Some x) e
-
-  pub turn_none : i < length bs → None ≡ stowed stow h (loads (compact (get_or bs i None ∷ []))) → false ≡ is_some r
-  turn_none lt e = ap is_some (sym (onward_none stow (loads (compact (drop (i + 1) bs)))) ∙ turn lt None e)
-
-  pub turn_last : length bs ≤ i → true ≡ is_some r
-  turn_last le = ap is_some (ap (λ l. stowed stow h (loads (compact l))) (sym (drop_all i bs le)) ∙ left)
+use Rattle.growth.specs.Positions.{compact, walk_of, Sound, left_of, fit_together, limits_kept, Visited, Stepped}
 
 -- the i-th booking is open
 pub ith_in : (bs : List (Option Booking)) (i : ℕ) (b : Booking) → get_or bs i None ≡ Some b → In b (compact bs)
@@ -120,6 +93,13 @@ module _ (g : Rules) where
           fewer = subst (λ l. stops l + 1 ≡ stops (compact p.bookings)) open_same (served_stops now_driven b (compact p.bookings) (ith_in p.bookings i b its));
         }
 
+    -- the booking's next stop may not be served next
+    pub not_visited : (v : Option Visit) → v ≡ None → step g (walk_of p) b ≡ None → Stepped g p (get_or p.bookings i None) v
+    not_visited v none refused = subst (λ o. Stepped g p o v) (sym its) (subst (Stepped g p (Some b)) (sym none) refused)
+
+    is_visited : (v : Visit) → Visited g p b v → Stepped g p (get_or p.bookings i None) (Some v)
+    is_visited v h = subst (λ o. Stepped g p o (Some v)) (sym its) h
+
     module _ (its_stop : Stop) (stop_is : its_stop ≡ next_stop b) where
       -- the roads do not answer
       pub step_unknown : None ≡ between g.places g.trip p.place its_stop.place → step g (walk_of p) b ≡ None
@@ -149,7 +129,7 @@ module _ (g : Rules) where
           step_beyond t e f = step_no (walk_of p) b (λ a. both_ways (within_limits g (walk_of p) b) (sym limits_are ∙ sym e ∙ f) a.limits)
 
           pub step_taken : (t : Bool) → t ≡ limits_kept g b (p.driven + seconds) (compact (set p.bookings i o)) → t ≡ true → (leaves : ℕ) → leaves ≡ departs second →
-              Visited g p b (record { second = second; position = record { place = its_stop.place; second = leaves; driven = p.driven + seconds; cost = p.cost + seconds; bookings = set p.bookings i o } })
+              Stepped g p (get_or p.bookings i None) (Some (record { second = second; position = record { place = its_stop.place; second = leaves; driven = p.driven + seconds; cost = p.cost + seconds; bookings = set p.bookings i o } }))
           step_taken t e f leaves l =
               let place_is = ap (λ s. s.place) stop_is in
               let leaves_is = l ∙ ap departs service_is in
@@ -157,5 +137,5 @@ module _ (g : Rules) where
               let served = service_is in
               let same : record { second = second; position = record { place = its_stop.place; second = leaves; driven = p.driven + seconds; cost = p.cost + seconds; bookings = set p.bookings i o } } ≡ visit =
               (λ k. record { second = service_is k; position = record { place = place_is k; second = leaves_is k; driven = p.driven + road.2 k; cost = p.cost + road.2 k; bookings = set p.bookings i (left_is k) } }) in
-              subst (Visited g p b) (sym same)
-              (visited (record { here = road.0; there = road.1; timely = omega arith; limits = sym limits_are ∙ sym e ∙ f }))
+              is_visited _ (subst (Visited g p b) (sym same)
+              (visited (record { here = road.0; there = road.1; timely = omega arith; limits = sym limits_are ∙ sym e ∙ f })))

@@ -1,5 +1,5 @@
 -- Shows what one stop more adds to the nodes of a tree, to their number and to the least cost.
-use Rattle.std.proofs.Common.{◌≡◌, ℕ, zero, suc, pred, ◌+◌, min, true, false, leb, List, [], ◌∷◌, ◌++◌, map, length, is_some, Some, None, Option, sym, refl, ap, ◌∙◌, subst, arith}
+use Rattle.std.proofs.Common.{◌≡◌, ℕ, zero, suc, pred, ◌+◌, min, true, false, leb, List, [], ◌∷◌, ◌++◌, map, length, Some, None, Option, sym, refl, ap, ◌∙◌, subst, arith}
 use Rattle.std.specs.Option.{option_map}
 use Rattle.std.proofs.lemmas.Bool.{cond_both, leb-true, leb-false}
 use Rattle.orders.specs.declared.Booking.{Booking}
@@ -16,7 +16,6 @@ use Rattle.orders.proofs.Basics.{none_some}
 use Rattle.orders.proofs.Paths.{listed_nodes}
 use Rattle.orders.proofs.Nodes.{some_order}
 use Rattle.growth.specs.declared.guide.Fresh.{Fresh}
-use Rattle.growth.specs.Positions.{compact}
 use Rattle.growth.specs.Guides.{new_to, grown, grown_row, grown_from}
 use Rattle.growth.specs.declared.tally.Tally.{Tally}
 use Rattle.growth.specs.Surveys.{none_open, lesser, least_cost, Tallies}
@@ -88,15 +87,6 @@ module _ (b : Booking) (s : ℕ) (v : Walk) where
   least_branch bs below beside cost h e =
       least_append (map (prefixed (number_of b)) (or_end below v.cost (orders below))) (orders beside)
       ∙ ap (λ x. lesser x (least_cost (orders beside))) (least_prefixed (number_of b) (or_end below v.cost (orders below)) ∙ least_end bs below cost h e)
-
--- whether a booking is open, one by one
-pub open_some : (o : Option Booking) (os : List (Option Booking)) → true ≡ is_some o → none_open (compact (o ∷ os)) ≡ false
-open_some (Some b) os e = refl
-open_some None os e = let z : ◌≡◌ {A = ℕ} 0 1 = cc in absurd (omega arith)
-
-pub open_none : (o : Option Booking) (os : List (Option Booking)) → false ≡ is_some o → none_open (compact (o ∷ os)) ≡ none_open (compact os)
-open_none (Some b) os e = let z : ◌≡◌ {A = ℕ} 0 1 = cc in absurd (omega arith)
-open_none None os e = refl
 
 none_open_nil : (bs : List Booking) → none_open bs ≡ true → bs ≡ []
 none_open_nil [] e = refl
@@ -179,27 +169,31 @@ module _ (g : Rules) (fresh : Fresh) (old : List Node) where
     pub dead_end : r.least ≡ None → grown_from g fresh old w bs ≡ grown_from g fresh old w bs'
     dead_end e = ap (grown_from g fresh old w) bs_is ∙ stands bs' ∙ branch_none b s v v.bookings (grown g fresh on v) (grown_from g fresh old w bs') (reached None e)
 
-    module _ (cost : ℕ) (e : r.least ≡ Some cost) where
-      one_stop : grown_from g fresh old w bs ≡ stop (number_of b) (stop_kind b) s v.cost (grown g fresh on v) (grown_from g fresh old w bs')
-      one_stop =
-          ap (grown_from g fresh old w) bs_is ∙ stands bs'
-          ∙ branch_some b s v v.bookings (grown g fresh on v) (grown_from g fresh old w bs') cost (empty_below g fresh on v) (reached (Some cost) e)
+    -- an order goes on from it
+    pub one_stop : (cost : ℕ) → r.least ≡ Some cost → grown_from g fresh old w bs ≡ stop (number_of b) (stop_kind b) s v.cost (grown g fresh on v) (grown_from g fresh old w bs')
+    one_stop cost e =
+        ap (grown_from g fresh old w) bs_is ∙ stands bs'
+        ∙ branch_some b s v v.bookings (grown g fresh on v) (grown_from g fresh old w bs') cost (empty_below g fresh on v) (reached (Some cost) e)
 
-      -- one stop more, and what grows below it
-      pub tallied_more : (count count' : ℕ) (least least' : Option ℕ) → count' ≡ count + (1 + r.count) → least' ≡ lesser least (Some cost) → Tallied w bs count least → Tallied w bs' count' least'
-      tallied_more count count' least least' c_is l_is t = (
-        let a = ap size one_stop in let q = t.0 in let m = tallies.count in let n = length_nodes (grown g fresh on v) 1 in omega arith,
-        ap (λ x. lesser x (least_cost (orders (grown_from g fresh old w bs')))) l_is
-            ∙ lesser_assoc least (Some cost) (least_cost (orders (grown_from g fresh old w bs')))
-            ∙ ap (lesser least) (sym (least_branch b s v v.bookings (grown g fresh on v) (grown_from g fresh old w bs') cost (empty_below g fresh on v) (reached (Some cost) e)))
-            ∙ ap (λ y. lesser least (least_cost (orders y))) (sym one_stop)
-            ∙ t.1,
-      )
+  -- b's next stop is a root, with v the walk from it on, and r is the tally of the tree below it
+  module _ (w : Walk) (b : Booking) (s : ℕ) (bs bs' : List Booking) (v : Walk) (on : List Node) (r : Tally) (tallies : Tallies g fresh on v r) (cost : ℕ) (some : r.least ≡ Some cost)
+      (stands : grown_from g fresh old w bs ≡ stop (number_of b) (stop_kind b) s v.cost (grown g fresh on v) (grown_from g fresh old w bs')) where
+    -- one stop more, and what grows below it
+    pub tallied_more : (count count' : ℕ) (least least' : Option ℕ) → count' ≡ count + (1 + r.count) → least' ≡ lesser least (Some cost) → Tallied w bs count least → Tallied w bs' count' least'
+    tallied_more count count' least least' c_is l_is t =
+        let told = ap least_cost (sym (listed_ahead v v.bookings (grown g fresh on v))) ∙ sym tallies.least ∙ some in (
+          let a = ap size stands in let q = t.0 in let m = tallies.count in let n = length_nodes (grown g fresh on v) 1 in omega arith,
+          ap (λ x. lesser x (least_cost (orders (grown_from g fresh old w bs')))) l_is
+              ∙ lesser_assoc least (Some cost) (least_cost (orders (grown_from g fresh old w bs')))
+              ∙ ap (lesser least) (sym (least_branch b s v v.bookings (grown g fresh on v) (grown_from g fresh old w bs') cost (empty_below g fresh on v) told))
+              ∙ ap (λ y. lesser least (least_cost (orders y))) (sym stands)
+              ∙ t.1,
+        )
 
-      -- its node, the nodes below it, and those of its later siblings
-      pub one_node : (d n k : ℕ) → n ≡ number_of b → k ≡ stop_kind b →
-          nodes d (grown_from g fresh old w bs) ≡ record { booking = n; kind = k; depth = d; span = 1 + r.count; second = s; cost = v.cost } ∷ (nodes (d + 1) (grown g fresh on v) ++ nodes d (grown_from g fresh old w bs'))
-      one_node d n k n_is k_is =
-          let span_is = length_nodes (grown g fresh on v) (d + 1) ∙ sym (length_nodes (grown g fresh on v) 1) ∙ sym tallies.count in
-          ap (nodes d) one_stop
-          ∙ (λ i. record { booking = sym n_is i; kind = sym k_is i; depth = d; span = 1 + span_is i; second = s; cost = v.cost } ∷ (nodes (d + 1) (grown g fresh on v) ++ nodes d (grown_from g fresh old w bs')))
+    -- its node, the nodes below it, and those of its later siblings
+    pub one_node : (d n k : ℕ) → n ≡ number_of b → k ≡ stop_kind b →
+        nodes d (grown_from g fresh old w bs) ≡ record { booking = n; kind = k; depth = d; span = 1 + r.count; second = s; cost = v.cost } ∷ (nodes (d + 1) (grown g fresh on v) ++ nodes d (grown_from g fresh old w bs'))
+    one_node d n k n_is k_is =
+        let span_is = length_nodes (grown g fresh on v) (d + 1) ∙ sym (length_nodes (grown g fresh on v) 1) ∙ sym tallies.count in
+        ap (nodes d) stands
+        ∙ (λ i. record { booking = sym n_is i; kind = sym k_is i; depth = d; span = 1 + span_is i; second = s; cost = v.cost } ∷ (nodes (d + 1) (grown g fresh on v) ++ nodes d (grown_from g fresh old w bs')))

@@ -1,94 +1,93 @@
 -- Shows what trying the i-th booking of a position adds to what grows from it.
-use Rattle.std.proofs.Common.{◌≡◌, ℕ, ◌+◌, ◌<◌, ◌≤◌, false, List, ◌∷◌, ◌++◌, length, get_or, drop, Some, None, Option, ap, ◌∙◌, arith}
+use denote.Ref.{Bor}
+use Rattle.std.proofs.Common.{◌≡◌, ℕ, ◌+◌, ◌<◌, ◌≤◌, false, List, ◌∷◌, length, get_or, drop, Some, None, Option, sym, ap, ◌∙◌, subst, arith}
 use Rattle.std.proofs.lemmas.List.{drop_more, drop_all}
 use Rattle.orders.specs.declared.Booking.{Booking}
 use Rattle.orders.specs.declared.Node.{Node}
 use Rattle.orders.specs.Rules.{Rules}
 use Rattle.orders.specs.Bookings.{number_of, stop_kind}
-use Rattle.orders.specs.Trees.{nodes}
+use Rattle.orders.specs.Growth.{guide_row}
+use Rattle.orders.specs.Trees.{stop}
 use Rattle.growth.specs.declared.walk.Position.{Position}
+use Rattle.growth.specs.declared.walk.Visit.{Visit}
 use Rattle.growth.specs.declared.guide.Fresh.{Fresh}
-use Rattle.growth.specs.declared.guide.Guide.{Guide}
-use Rattle.growth.specs.declared.guide.Branch.{Branch}
+use Rattle.growth.specs.declared.tally.Root.{Root}
 use Rattle.growth.specs.declared.tally.Tally.{Tally}
-use Rattle.growth.specs.Positions.{compact, walk_of, Sound}
-use Rattle.growth.specs.Guides.{row_at, grown, grown_from, Branches, Branched}
-use Rattle.growth.specs.Surveys.{none_open, lesser, Tallies}
+use Rattle.growth.specs.Positions.{compact, walk_of, Sound, Visited, Stepped}
+use Rattle.growth.specs.Guides.{new_to, grown, grown_row, grown_from}
+use Rattle.growth.specs.Roots.{from_here, from_next, IsRoot, Grows}
+use Rattle.growth.specs.Surveys.{none_open, Tallies}
+use Rattle.growth.proofs.Branched.{not_guided, not_allowed, led_on}
 use Rattle.growth.proofs.Counts.{size, length_nodes, grown_fits, few_open}
-use Rattle.growth.proofs.Tallies as tallies
+use Rattle.growth.proofs.Tallies.{grown_all, Tallied, tallied_all, dead_end, one_stop}
 
-module _ (g : Rules) (fresh : Fresh) (memory : List Node) (h : Guide) (p : Position) (sound : Sound p) where
-  abbrev bookings : List (Option Booking)
-  bookings = p.bookings
+-- no tree has more nodes than the largest slab
+most : (g : Rules) (fresh : Fresh) (old : List Node) (p : Position) → Sound p → length (grown_row g fresh old (walk_of p)) ≤ 7364
+most g fresh old p sound = grown_fits g fresh old 4 (walk_of p) sound.ascending (few_open p sound) (omega arith)
 
-  -- the tally so far, of the bookings before the i-th
-  abbrev pub Tallied : ℕ → ℕ → Option ℕ → Type 0
-  Tallied i count least = tallies.Tallied g fresh (row_at memory h) (walk_of p) (compact (drop i bookings)) count least
+module _ (g : Rules) (fresh : Fresh) (old : List Node) (p : Position) where
+  -- so neither has a root too many below it, nor a tree so far too many in all
+  pub root_small : {i : ℕ} (x : Root) → IsRoot g fresh old p i x → x.below ≤ 7364
+  root_small x root = let m = most g fresh x.old.now x.visit.position root.sound in let c = root.below.count in omega arith
 
-  -- no tree has more nodes than the largest slab
-  pub small : (r : Tally) → Tallies g fresh (row_at memory h) (walk_of p) r → r.count ≤ 7364
-  small r t =
-      let f = grown_fits g fresh (row_at memory h) 4 (walk_of p) sound.ascending (few_open p sound) (omega arith) in
-      let c = t.count in
-      omega arith
-
-  pub small_so_far : (i count : ℕ) (least : Option ℕ) → Tallied i count least → count ≤ 7364
-  small_so_far i count least t =
-      let f = grown_fits g fresh (row_at memory h) 4 (walk_of p) sound.ascending (few_open p sound) (omega arith) in
+  pub small_so_far : Sound p → (bs : List Booking) (count : ℕ) (least : Option ℕ) → Tallied g fresh old (walk_of p) bs count least → count ≤ 7364
+  small_so_far sound bs count least t =
+      let m = most g fresh old p sound in
       let c = t.0 in
-      let e = ap size (tallies.grown_all g fresh (row_at memory h) (walk_of p)) in
-      let l = length_nodes (grown g fresh (row_at memory h) (walk_of p)) 1 in
+      let e = ap size (grown_all g fresh old (walk_of p)) in
+      let l = length_nodes (grown g fresh old (walk_of p)) 1 in
       omega arith
 
-  pub all_tried : (i count : ℕ) (least : Option ℕ) → false ≡ none_open (compact bookings) → 4 ≤ i → Tallied i count least → Tallies g fresh (row_at memory h) (walk_of p) (record { count = count; least = least })
-  all_tried i count least o le t =
-      tallies.tallied_all g fresh (row_at memory h) (walk_of p) (compact (drop i bookings)) count least o
-      (ap compact (drop_all i bookings (let f = sound.four in omega arith))) t
+  -- all bookings are tried
+  pub all_tried : Sound p → (i count : ℕ) (least : Option ℕ) → false ≡ none_open (compact p.bookings) → 4 ≤ i → Tallied g fresh old (walk_of p) (compact (drop i p.bookings)) count least →
+      Tallies g fresh old (walk_of p) (record { count = count; least = least })
+  all_tried sound i count least o le t =
+      tallied_all g fresh old (walk_of p) (compact (drop i p.bookings)) count least o
+      (ap compact (drop_all i p.bookings (let f = sound.four in omega arith))) t
 
-  module _ (i : ℕ) (lt : i < 4) where
-    -- what grows from the i-th booking on, and from the next one on
-    abbrev Same : Type 0
-    Same = grown_from g fresh (row_at memory h) (walk_of p) (compact (drop i bookings)) ≡ grown_from g fresh (row_at memory h) (walk_of p) (compact (drop (i + 1) bookings))
+module _ (g : Rules) (fresh : Fresh) (old : List Node) (p : Position) (sound : Sound p) (i : ℕ) (lt : i < 4) where
+  abbrev Same : Type 0
+  Same = from_here g fresh old p i ≡ from_next g fresh old p i
 
-    within : i < length bookings
-    within = let f = sound.four in omega arith
+  within : i < length p.bookings
+  within = let f = sound.four in omega arith
 
-    pub gap : get_or bookings i None ≡ None → Same
-    gap e = ap (λ bs. grown_from g fresh (row_at memory h) (walk_of p) (compact bs)) (drop_more bookings i None within)
-        ∙ ap (λ o. grown_from g fresh (row_at memory h) (walk_of p) (compact (o ∷ drop (i + 1) bookings))) e
+  pub nothing_grows : (x : Option Root) → x ≡ None → Same → Grows g fresh old p i x
+  nothing_grows x e same = subst (Grows g fresh old p i) (sym e) same
 
-    pub nothing_more : (count count' : ℕ) (least least' : Option ℕ) → Same → count' ≡ count → least' ≡ least → Tallied i count least → Tallied (i + 1) count' least'
-    nothing_more count count' least least' same c l t =
-        tallies.tallied_same g fresh (row_at memory h) (walk_of p) (compact (drop i bookings)) (compact (drop (i + 1) bookings)) count count' least least' same c l t
+  module _ (b : Booking) (its : get_or p.bookings i None ≡ Some b) (n : ℕ) (n_is : n ≡ number_of b) where
+    abbrev later : List Booking
+    later = compact (drop (i + 1) p.bookings)
 
-    module _ (b : Booking) (its : get_or bookings i None ≡ Some b) where
-      first : compact (drop i bookings) ≡ b ∷ compact (drop (i + 1) bookings)
-      first = ap compact (drop_more bookings i None within) ∙ ap (λ o. compact (o ∷ drop (i + 1) bookings)) its
+    first : compact (drop i p.bookings) ≡ b ∷ later
+    first = ap compact (drop_more p.bookings i None within) ∙ ap (λ o. compact (o ∷ drop (i + 1) p.bookings)) its
 
-      pub refused : Branches g fresh memory h p b None → Same
-      refused e = ap (grown_from g fresh (row_at memory h) (walk_of p)) first ∙ e (compact (drop (i + 1) bookings))
+    -- the old tree does not have its next stop
+    pub unguided : guide_row (new_to fresh) n old ≡ None → Same
+    unguided e = ap (grown_from g fresh old (walk_of p)) first ∙ not_guided g fresh old (walk_of p) b n n_is e later
 
-      module _ (x : Branch) (branched : Branched g fresh memory h p b x) (r : Tally) (t : Tallies g fresh (row_at memory x.guide) (walk_of x.position) r) where
-        pub dead_end : r.least ≡ None → Same
-        dead_end e =
-            tallies.dead_end g fresh (row_at memory h) (walk_of p) b x.second (compact (drop i bookings)) (compact (drop (i + 1) bookings)) first
-            (walk_of x.position) (row_at memory x.guide) r t branched.stands e
+    module _ (on : List Node) (e : guide_row (new_to fresh) n old ≡ Some on) where
+      -- it may not be served next
+      pub refused : Stepped g p (get_or p.bookings i None) None → Same
+      refused s = ap (grown_from g fresh old (walk_of p)) first ∙ not_allowed g fresh old (walk_of p) b n n_is on e (subst (λ o. Stepped g p o None) its s) later
 
-        module _ (cost : ℕ) (e : r.least ≡ Some cost) where
-          pub one_more : (count count' : ℕ) (least least' joined : Option ℕ) → count' ≡ count + (1 + r.count) → least' ≡ joined → joined ≡ lesser least (Some cost) → Tallied i count least → Tallied (i + 1) count' least'
-          one_more count count' least least' joined c l j so_far =
-              tallies.tallied_more g fresh (row_at memory h) (walk_of p) b x.second (compact (drop i bookings)) (compact (drop (i + 1) bookings)) first
-              (walk_of x.position) (row_at memory x.guide) r t branched.stands cost e count count' least least' c (l ∙ j) so_far
+      module _ (v : Visit) (stepped : Stepped g p (get_or p.bookings i None) (Some v)) (r : Tally) (tallies : Tallies g fresh on (walk_of v.position) r) where
+        visited : Visited g p b v
+        visited = subst (λ o. Stepped g p o (Some v)) its stepped
 
-          -- the node of the stop, what all bookings give from its position on, and what the next ones give here
-          pub one_node : (d n k : ℕ) → n ≡ number_of b → k ≡ stop_kind b →
-              nodes d (grown_from g fresh (row_at memory h) (walk_of p) (compact (drop i bookings)))
-              ≡ record { booking = n; kind = k; depth = d; span = 1 + r.count; second = x.second; cost = x.position.cost }
-              ∷ (nodes (d + 1) (grown_from g fresh (row_at memory x.guide) (walk_of x.position) (compact x.position.bookings))
-              ++ nodes d (grown_from g fresh (row_at memory h) (walk_of p) (compact (drop (i + 1) bookings))))
-          one_node d n k n_is k_is =
-              tallies.one_node g fresh (row_at memory h) (walk_of p) b x.second (compact (drop i bookings)) (compact (drop (i + 1) bookings)) first
-              (walk_of x.position) (row_at memory x.guide) r t branched.stands cost e d n k n_is k_is
-              ∙ ap (λ y. record { booking = n; kind = k; depth = d; span = 1 + r.count; second = x.second; cost = x.position.cost }
-              ∷ (nodes (d + 1) y ++ nodes d (grown_from g fresh (row_at memory h) (walk_of p) (compact (drop (i + 1) bookings)))))
-              (tallies.grown_all g fresh (row_at memory x.guide) (walk_of x.position))
+        -- no order goes on from it
+        pub stuck : r.least ≡ None → Same
+        stuck none =
+            dead_end g fresh old (walk_of p) b v.second (compact (drop i p.bookings)) later first (walk_of v.position) on r tallies
+            (led_on g fresh old (walk_of p) b n n_is on e (walk_of v.position) v.second visited.onward visited.second visited.fewer) none
+
+        -- it is a root
+        pub rooted : (cost : ℕ) → r.least ≡ Some cost → (h : Bor (List Node)) → h.now ≡ on → IsRoot g fresh old p i (record { booking = b; visit = v; old = h; below = r.count; least = cost })
+        rooted cost some h lent = record {
+          stands = subst (λ o. from_here g fresh old p i ≡ stop (number_of b) (stop_kind b) v.second v.position.cost (grown g fresh o (walk_of v.position)) (from_next g fresh old p i)) (sym lent)
+              (one_stop g fresh old (walk_of p) b v.second (compact (drop i p.bookings)) later first (walk_of v.position) on r tallies
+              (led_on g fresh old (walk_of p) b n n_is on e (walk_of v.position) v.second visited.onward visited.second visited.fewer) cost some);
+          sound = visited.sound;
+          fewer = visited.fewer;
+          below = subst (λ o. Tallies g fresh o (walk_of v.position) (record { count = r.count; least = Some cost })) (sym lent) (record { count = tallies.count; least = sym some ∙ tallies.least });
+        }

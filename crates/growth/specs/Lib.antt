@@ -6,4 +6,4 @@ pub mod Changes
 pub mod Surveys
 pub mod Memory
 pub mod Slabs
-pub mod Frames
+pub mod Roots

@@ -48,7 +48,8 @@ pub record Visited (g : Rules) (p : Position) (b : Booking) (v : Visit) : Type 0
   pub sound : Sound v.position
   pub fewer : stops (compact v.position.bookings) + 1 ≡ stops (compact p.bookings)
 
--- b's next stop may not be served next, or is visited
-abbrev pub Stepped : Rules → Position → Booking → Option Visit → Type 0
-Stepped g p b None = step g (walk_of p) b ≡ None
-Stepped g p b (Some v) = Visited g p b v
+-- a booking's next stop may not be served next, or is visited; of no booking there is none to visit
+abbrev pub Stepped : Rules → Position → Option Booking → Option Visit → Type 0
+Stepped g p None v = v ≡ None
+Stepped g p (Some b) None = step g (walk_of p) b ≡ None
+Stepped g p (Some b) (Some v) = Visited g p b v

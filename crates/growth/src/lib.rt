@@ -14,7 +14,7 @@ mod walk;
 pub use guide::Fresh;
 pub use memory::{Slabs, clear, prune, regrow, slabs_of};
 pub use tally::{Tally, survey};
-pub use walk::{Position, departure, fits, kind, upcoming};
+pub use walk::{Position, departure, fits};
 
 /// Roads and a stowage rule, lent together.
 #[derive_where(Clone, Copy)]

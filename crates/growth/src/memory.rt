@@ -5,14 +5,14 @@ ghost use Rattle.orders.specs.Laws.{below_root};
 ghost use Rattle.growth.specs.Grounds.{rules_of};
 ghost use Rattle.growth.specs.declared.guide.Fresh.TheVariants.{Nobody};
 ghost use Rattle.growth.specs.Positions.{compact, walk_of, Sound};
-ghost use Rattle.growth.specs.Guides.{row, row_at, grown_row};
+ghost use Rattle.growth.specs.Guides.{row, grown_row};
 ghost use Rattle.growth.specs.Changes.{Suffices};
 ghost use Rattle.growth.specs.Memory.{pasted};
 ghost use Rattle.growth.specs.Slabs.{slabs_at, own_slab, Laid, Roomy, Replaced, Holds};
 ghost use Rattle.van_slab.specs.Limits.{open_limit};
 
-use crate::grow::grow_into;
-use crate::guide::{Guide, find_child};
+use crate::guide::find_child;
+use crate::tally::Growth;
 use crate::{Fresh, Ground, Position};
 use orders::Node;
 use roads::Roads;
@@ -20,11 +20,33 @@ use stowage::Stowage;
 use van_slab::OpenLimit;
 
 /// Where a van's own slab and the working slab behind it begin, and how many nodes each has.
+// Kept: that they lie in node memory is asked by each call, since the memory is handed to each anew.
 #[derive(Clone, Copy)]
 pub struct Slabs {
     pub own: usize,
     pub work: usize,
     pub size: usize,
+}
+
+impl Slabs {
+    /// The nodes of the own slab.
+    pub(crate) fn own_nodes(self, nodes: &[Node]) -> &[Node]
+        requires { self.own + self.size ≤ length nodes.now }
+        ensures { result.now ≡ own_slab nodes.now self }
+    {
+        &nodes[self.own..self.own + self.size]
+    }
+
+    /// The first nodes of the working slab go into the own slab, then blanks; the working slab is blank again.
+    fn take_over(self, nodes: &mut [Node], count: usize)
+        requires laid { Laid nodes.old self }
+        requires fits { count ≤ self.size }
+        ensures { Replaced nodes.old self (row nodes.old self.work (self.work + count)) nodes.new }
+    {
+        nodes.copy_within(self.work..self.work + count, self.own);
+        clear(nodes, self.own + count, self.size - count);
+        clear(nodes, self.work, self.size);
+    }
 }
 
 /// The slabs of a van, counted from 0, in a memory that has one slab for each van and the working slab behind them all.
@@ -40,59 +62,12 @@ pub fn slabs_of(van: u32, vans: u32, limit: OpenLimit) -> Slabs
     }
 }
 
-/// Copies so many nodes to a place before them.
-fn copy_down(nodes: &mut [Node], from: usize, to: usize, count: usize)
-    requires apart { to + count ≤ from }
-    requires room { from + count ≤ length nodes.old }
-    ensures { nodes.new ≡ pasted nodes.old to (row nodes.old from (from + count)) }
-{
-    for i in 0..count {
-        let node = nodes[from + i];
-        nodes[to + i] = node;
-    }
-}
-
 /// Makes so many nodes blank.
 pub fn clear(nodes: &mut [Node], at: usize, count: usize)
     requires { at + count ≤ length nodes.old }
     ensures { nodes.new ≡ pasted nodes.old at (replicate count blank) }
 {
-    for i in 0..count {
-        nodes[at + i] = Node::BLANK;
-    }
-}
-
-/// The first nodes of the working slab go into the own slab, then blanks; the working slab is blank again.
-fn take_over(nodes: &mut [Node], slabs: Slabs, count: usize)
-    requires laid { Laid nodes.old slabs }
-    requires fits { count ≤ slabs.size }
-    ensures { Replaced nodes.old slabs (row nodes.old slabs.work (slabs.work + count)) nodes.new }
-{
-    copy_down(nodes, slabs.work, slabs.own, count);
-    clear(nodes, slabs.own + count, slabs.size - count);
-    clear(nodes, slabs.work, slabs.size);
-}
-
-/// The own slab gets the tree that grows from a position along its guide; answers how many nodes it has.
-fn regrow_along<R: Roads, S: Stowage>(
-    ground: Ground<R, S>,
-    nodes: &mut [Node],
-    guide: Guide,
-    slabs: Slabs,
-    position: Position,
-    fresh: Fresh,
-) -> usize
-    requires sound { Sound position }
-    requires rises { guide.from ≤ guide.to }
-    requires before { guide.to ≤ slabs.work }
-    requires laid { Laid nodes.old slabs }
-    requires roomy { Roomy slabs.size (compact position.bookings) }
-    ensures replaced { Replaced nodes.old slabs (grown_row (rules_of R.Roads S.Stowage ground.entry) fresh (row_at nodes.old guide) (walk_of position)) nodes.new }
-    ensures count { result ≡ length (grown_row (rules_of R.Roads S.Stowage ground.entry) fresh (row_at nodes.old guide) (walk_of position)) }
-{
-    let count = grow_into(ground, nodes, guide, slabs.work, position, fresh);
-    take_over(nodes, slabs, count);
-    count
+    nodes[at..at + count].fill(Node::BLANK);
 }
 
 /// A van has one booking more, the clock has run on, it is bound elsewhere, or its tree is to grow anew: its slab gets the
@@ -111,11 +86,16 @@ pub fn regrow<R: Roads, S: Stowage>(
     ensures count { result ≡ length (grown_row (rules_of R.Roads S.Stowage ground.entry) fresh (own_slab nodes.old slabs) (walk_of position)) }
     ensures exact { Suffices (rules_of R.Roads S.Stowage ground.entry) fresh (own_slab nodes.old slabs) (walk_of position) → Holds (rules_of R.Roads S.Stowage ground.entry) nodes.new slabs (walk_of position) }
 {
-    let whole = Guide {
-        from: slabs.own,
-        to: slabs.own + slabs.size,
+    let (vans, work) = nodes.split_at_mut(slabs.work);
+    let tree = Growth {
+        ground,
+        old: slabs.own_nodes(vans),
+        fresh,
+        position,
     };
-    regrow_along(ground, nodes, whole, slabs, position, fresh)
+    let count = tree.write(1, work);
+    slabs.take_over(nodes, count);
+    count
 }
 
 /// A van has served the next stop of a booking, on time and within its limit: its slab gets what stood below that stop, as
@@ -134,16 +114,15 @@ pub fn prune<R: Roads, S: Stowage>(
     ensures count { result ≡ length (grown_row (rules_of R.Roads S.Stowage ground.entry) Nobody (below_root served (own_slab nodes.old slabs)) (walk_of position)) }
     ensures exact { Suffices (rules_of R.Roads S.Stowage ground.entry) Nobody (below_root served (own_slab nodes.old slabs)) (walk_of position) → Holds (rules_of R.Roads S.Stowage ground.entry) nodes.new slabs (walk_of position) }
 {
-    let whole = Guide {
-        from: slabs.own,
-        to: slabs.own + slabs.size,
+    let (vans, work) = nodes.split_at_mut(slabs.work);
+    let own = slabs.own_nodes(vans);
+    let tree = Growth {
+        ground,
+        old: find_child(own, served).unwrap_or(&[]),
+        fresh: Fresh::Nobody,
+        position,
     };
-    let nothing = Guide {
-        from: slabs.own,
-        to: slabs.own,
-    };
-    match find_child(nodes, whole, served) {
-        Some(below) => regrow_along(ground, nodes, below, slabs, position, Fresh::Nobody),
-        None => regrow_along(ground, nodes, nothing, slabs, position, Fresh::Nobody),
-    }
+    let count = tree.write(1, work);
+    slabs.take_over(nodes, count);
+    count
 }

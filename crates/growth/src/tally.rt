@@ -1,13 +1,13 @@
 //! The size of a tree and the least cost of its orders, told without storing it.
-ghost use Rattle.std.specs.Prelude.{◌≡◌, Some};
+ghost use Rattle.std.specs.Prelude.{◌≡◌, ◌<◌, Some};
 ghost use Rattle.growth.specs.Grounds.{rules_of};
 ghost use Rattle.growth.specs.Positions.{compact, walk_of, Sound};
-ghost use Rattle.growth.specs.Guides.{row_at, Inside};
 ghost use Rattle.growth.specs.Changes.{Suffices};
+ghost use Rattle.growth.specs.Roots.{Grows};
 ghost use Rattle.growth.specs.Slabs.{own_slab, Laid};
 ghost use Rattle.growth.specs.Surveys.{none_open, lesser, Tallies, Surveys};
 
-use crate::guide::{Guide, branch_off};
+use crate::walk::{Visit, step};
 use crate::{Fresh, Ground, Position, Slabs};
 use orders::{Booking, Node};
 use roads::Roads;
@@ -20,62 +20,91 @@ pub struct Tally {
     pub least: Option<u32>,
 }
 
+/// A tree to grow: on a ground, along the nodes of an old tree, to which some bookings are new, from a position on.
+// Kept: that the position is sound is asked by each call: as a ghost field it needs a proof that it has one proof, and
+// takes away `..self`.
+#[derive_where(Clone, Copy)]
+pub(crate) struct Growth<'a, R, S> {
+    pub ground: Ground<'a, R, S>,
+    pub old: &'a [Node],
+    pub fresh: Fresh,
+    pub position: Position,
+}
+
+/// A root of a tree: its booking and the visit to it, where to look on in the old tree, how many nodes stand below it, and
+/// the least cost of the orders that begin with it.
+#[derive(Clone, Copy)]
+pub(crate) struct Root<'a> {
+    pub booking: Booking,
+    pub visit: Visit,
+    pub old: &'a [Node],
+    pub below: u32,
+    pub least: u32,
+}
+
 /// Whether no booking is open.
 fn nothing_open(bookings: &[Option<Booking>]) -> bool
     ensures { result ≡ none_open (compact bookings.now) }
 {
-    for booking in bookings {
-        if booking.is_some() {
-            return false;
-        }
-    }
-    true
+    bookings.iter().all(Option::is_none)
 }
 
 /// The lesser of the least cost so far and another.
 fn least_with(least: Option<u32>, cost: u32) -> Option<u32>
     ensures { result ≡ lesser least (Some cost) }
 {
-    match least {
-        Some(known) => Some(known.min(cost)),
-        None => Some(cost),
-    }
+    Some(least.map_or(cost, |known| known.min(cost)))
 }
 
-/// The tally of the tree that grows from a position along its guide.
-pub(crate) fn tally_along<R: Roads, S: Stowage>(
-    ground: Ground<R, S>,
-    nodes: &[Node],
-    fresh: Fresh,
-    guide: Guide,
-    position: Position,
-) -> Tally
-    requires sound { Sound position }
-    requires inside { Inside nodes.now guide }
-    ensures { Tallies (rules_of R.Roads S.Stowage ground.entry) fresh (row_at nodes.now guide) (walk_of position) result }
-{
-    if nothing_open(&position.bookings) {
-        return Tally {
-            count: 0,
-            least: Some(position.cost),
+impl<'a, R: Roads, S: Stowage> Growth<'a, R, S> {
+    /// The next stop of the i-th booking, if the old tree has it, it may be served next, and an order goes on from it.
+    #[cycle(tally)]
+    pub(crate) fn try_next(self, i: usize) -> Option<Root<'a>>
+        requires sound { Sound self.position }
+        requires within { i < 4 }
+        ensures { Grows (rules_of R.Roads S.Stowage self.entry.ground) self.entry.fresh self.entry.old.now self.entry.position i result }
+    {
+        let booking = self.position.bookings[i]?;
+        let old = self.fresh.look_on(self.old, booking.number())?;
+        let visit = step(self.ground, self.position, i)?;
+        let tree = Growth {
+            old,
+            position: visit.position,
+            ..self
         };
+        let below = tree.tally();
+        let least = below.least?;
+        Some(Root {
+            booking,
+            visit,
+            old,
+            below: below.count,
+            least,
+        })
     }
-    let mut count = 0;
-    let mut least = None;
-    for i in 0..4 {
-        let candidate = position.bookings[i];
-        if let Some(booking) = candidate {
-            if let Some(branch) = branch_off(ground, nodes, fresh, guide, position, i, booking) {
-                let below = tally_along(ground, nodes, fresh, branch.guide, branch.position);
-                let reached = below.least;
-                if let Some(cost) = reached {
-                    count += 1 + below.count;
-                    least = least_with(least, cost);
-                }
+
+    /// The tally of the tree.
+    #[cycle(tally)]
+    pub(crate) fn tally(self) -> Tally
+        requires { Sound self.position }
+        ensures { Tallies (rules_of R.Roads S.Stowage self.entry.ground) self.entry.fresh self.entry.old.now (walk_of self.entry.position) result }
+    {
+        if nothing_open(&self.position.bookings) {
+            return Tally {
+                count: 0,
+                least: Some(self.position.cost),
+            };
+        }
+        let mut count = 0;
+        let mut least = None;
+        for i in 0..4 {
+            if let Some(root) = self.try_next(i) {
+                count += 1 + root.below;
+                least = least_with(least, root.least);
             }
         }
+        Tally { count, least }
     }
-    Tally { count, least }
 }
 
 /// The tally of a van's tree, guided by its slab: with one booking more, for its price; nothing is stored.
@@ -91,9 +120,11 @@ pub fn survey<R: Roads, S: Stowage>(
     ensures tallies { Tallies (rules_of R.Roads S.Stowage ground.entry) fresh (own_slab nodes.now slabs) (walk_of position) result }
     ensures exact { Suffices (rules_of R.Roads S.Stowage ground.entry) fresh (own_slab nodes.now slabs) (walk_of position) → Surveys (rules_of R.Roads S.Stowage ground.entry) (walk_of position) result }
 {
-    let whole = Guide {
-        from: slabs.own,
-        to: slabs.own + slabs.size,
+    let tree = Growth {
+        ground,
+        old: slabs.own_nodes(nodes),
+        fresh,
+        position,
     };
-    tally_along(ground, nodes, fresh, whole, position)
+    tree.tally()
 }

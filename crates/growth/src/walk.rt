@@ -1,13 +1,13 @@
 //! One stop further on a van's walk.
 ghost use Rattle.std.specs.Prelude.{◌≡◌, ◌<◌, [], ◌∷◌, Some, None, slice_index_or};
 ghost use Rattle.stowage.specs.Together.{stowed};
-ghost use Rattle.orders.specs.Bookings.{next_stop, stop_kind, loads};
+ghost use Rattle.orders.specs.Bookings.{loads};
 ghost use Rattle.orders.specs.Walks.{departs};
 ghost use Rattle.growth.specs.Grounds.{rules_of};
 ghost use Rattle.growth.specs.Positions.{compact, left_of, fit_together, limits_kept, Sound, Stepped};
 
 use crate::Ground;
-use orders::{Booking, Stop};
+use orders::Booking;
 use roads::Roads;
 use stowage::Stowage;
 
@@ -26,26 +26,6 @@ pub struct Position {
 pub struct Visit {
     pub second: u32,
     pub position: Position,
-}
-
-/// 0 where a booking's next stop is a pickup, 1 where it is a drop-off.
-pub fn kind(booking: Booking) -> u32
-    ensures { result ≡ stop_kind booking }
-{
-    match booking {
-        Booking::Waiting { .. } => 0,
-        Booking::Aboard { .. } => 1,
-    }
-}
-
-/// A booking's next stop: its pickup while it waits, its drop-off once it is aboard.
-pub fn upcoming(booking: Booking) -> Stop
-    ensures { result ≡ next_stop booking }
-{
-    match booking {
-        Booking::Waiting { pickup, .. } => pickup,
-        Booking::Aboard { journey, .. } => journey.dropoff,
-    }
 }
 
 /// What stays open of a booking whose next stop is served when the van has driven so many seconds.
@@ -68,32 +48,27 @@ pub fn departure(second: u32) -> u32
     second
 }
 
-/// The hold with the booking's load too, if that is aboard.
+/// The hold with all loads aboard, if they fit together.
 fn stow_aboard<R: Roads, S: Stowage>(
     ground: Ground<R, S>,
-    hold: S::Hold,
-    booking: Option<Booking>,
+    bookings: &[Option<Booking>],
 ) -> Option<S::Hold>
-    ensures { result ≡ stowed (S.Stowage.stow ground.entry.rule.now) hold (loads (compact (booking ∷ []))) }
+    ensures { result ≡ stowed (S.Stowage.stow ground.entry.rule.now) (S.Stowage.empty ground.entry.rule.now) (loads (compact bookings.now)) }
 {
-    match booking {
-        Some(Booking::Aboard { journey, .. }) => ground.rule.stow(hold, journey.load),
-        _ => Some(hold),
+    let mut hold = ground.rule.empty();
+    for booking in bookings {
+        if let Some(Booking::Aboard { journey, .. }) = *booking {
+            hold = ground.rule.stow(hold, journey.load)?;
+        }
     }
+    Some(hold)
 }
 
 /// Whether all loads aboard fit together.
 pub fn fits<R: Roads, S: Stowage>(ground: Ground<R, S>, bookings: &[Option<Booking>]) -> bool
     ensures { result ≡ fit_together (rules_of R.Roads S.Stowage ground.entry) (compact bookings.now) }
 {
-    let mut hold = ground.rule.empty();
-    for booking in bookings {
-        match stow_aboard(ground, hold, *booking) {
-            Some(fuller) => hold = fuller,
-            None => return false,
-        }
-    }
-    true
+    stow_aboard(ground, bookings).is_some()
 }
 
 /// At a pickup all loads then aboard fit together; at a drop-off the ride is within its limit.
@@ -107,35 +82,28 @@ fn within_limits<R: Roads, S: Stowage>(
 {
     match booking {
         Booking::Waiting { .. } => fits(ground, bookings),
-        Booking::Aboard { since, journey } => {
-            let longest = since as u64 + journey.ride_limit as u64;
-            driven as u64 <= longest
-        }
+        Booking::Aboard { since, journey } => driven.saturating_sub(since) <= journey.ride_limit,
     }
 }
 
-/// The visit to the next stop of the i-th booking, if that may be served next.
+/// The visit to the next stop of the i-th booking, if that is open and may be served next.
 pub(crate) fn step<R: Roads, S: Stowage>(
     ground: Ground<R, S>,
     position: Position,
     i: usize,
-    booking: Booking,
 ) -> Option<Visit>
     requires sound { Sound position }
     requires within { i < 4 }
-    requires its { slice_index_or position.bookings i None ≡ Some booking }
-    ensures { Stepped (rules_of R.Roads S.Stowage ground.entry) position booking result }
+    ensures { Stepped (rules_of R.Roads S.Stowage ground.entry) position (slice_index_or position.bookings i None) result }
 {
-    let stop = upcoming(booking);
-    let Some(leg) = ground.roads.seconds(position.place, stop.place) else {
-        return None;
-    };
-    let arrival = position.second as u64 + leg as u64;
-    let service = arrival.max(stop.window.opens as u64);
-    if service > stop.window.closes as u64 {
+    let booking = position.bookings[i]?;
+    let stop = booking.next_stop();
+    let leg = ground.roads.seconds(position.place, stop.place)?;
+    let arrival = position.second.checked_add(leg)?;
+    let second = arrival.max(stop.window.opens);
+    if second > stop.window.closes {
         return None;
     }
-    let second = service as u32;
     let driven = position.driven + leg;
     let mut bookings = position.bookings;
     bookings[i] = left(booking, driven);

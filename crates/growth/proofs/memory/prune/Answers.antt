@@ -1,27 +1,33 @@
 -- Along what stood below the stop that was served the kinetic tree grows.
+use Rattle.std.proofs.Common.{refl, ap, ◌∙◌, arith}
 use Rattle.orders.specs.Laws.{below_root}
 use Rattle.growth.specs.declared.guide.Fresh.TheVariants.{Nobody}
 use Rattle.growth.specs.Grounds.{rules_of}
-use Rattle.growth.specs.Positions.{walk_of}
-use Rattle.growth.specs.Guides.{row, row_at}
 use Rattle.growth.specs.Slabs.{own_slab}
-use Rattle.growth.proofs.Replacing.{replaced_along, below_found, below_none}
+use Rattle.growth.proofs.Counts.{eight_stops}
+use Rattle.growth.proofs.Replacing.{own_before, below_found, work_fits_row, count_fits, regrown}
 use Rattle.growth.proofs.memory.prune.Goals as goal
 
-pub returns-in-Some : goal.returns-in-Some
-returns-in-Some g c =
-    let old = own_slab c.args.nodes.now c.args.slabs in
-    let all = replaced_along (rules_of g.R.Roads g.S.Stowage c.args.ground) (record { roads = g.met.R.Roads.lawful c.args.ground.roads.now; exchange = g.met.S.Stowage.exchange c.args.ground.rule.now })
-    Nobody (below_root c.args.served old) (row_at c.args.nodes.now c.in-Some.below) (walk_of c.args.position) c.args.nodes.now c.args.slabs
-    c.regrow_along.new.nodes c.regrow_along.result (below_found c.args.nodes.now c.args.served old c.in-Some.below c.in-Some.ensures.found)
-    c.regrow_along.ensures.replaced c.regrow_along.ensures.count in
-    record { replaced = all.0; count = all.1; exact = all.2 }
+pub write-count-requires-clause-deep : goal.write-count-requires-clause-deep
+write-count-requires-clause-deep g c = let e = eight_stops c.args.position c.requires.sound in omega arith
 
-pub returns-in-None : goal.returns-in-None
-returns-in-None g c =
-    let old = own_slab c.args.nodes.now c.args.slabs in
-    let all = replaced_along (rules_of g.R.Roads g.S.Stowage c.args.ground) (record { roads = g.met.R.Roads.lawful c.args.ground.roads.now; exchange = g.met.S.Stowage.exchange c.args.ground.rule.now })
-    Nobody (below_root c.args.served old) (row c.args.nodes.now c.args.slabs.own c.args.slabs.own) (walk_of c.args.position) c.args.nodes.now c.args.slabs
-    c.regrow_along-in-None.new.nodes c.regrow_along-in-None.result (below_none c.args.nodes.now c.args.served old c.args.slabs.own c.in-None.ensures.found)
-    c.regrow_along-in-None.ensures.replaced c.regrow_along-in-None.ensures.count in
+pub write-count-requires-clause-fits : goal.write-count-requires-clause-fits
+write-count-requires-clause-fits g c =
+    work_fits_row (rules_of g.R.Roads g.S.Stowage c.args.ground) Nobody c.args.position c.requires.sound c.args.nodes.now c.args.slabs c.requires.laid c.requires.roomy c.unwrap_or.result.now
+    c.split_at_mut-vans.result.1.now c.split_at_mut-vans.ensures.back
+
+pub take_over-requires-clause-fits : goal.take_over-requires-clause-fits
+take_over-requires-clause-fits g c =
+    count_fits (rules_of g.R.Roads g.S.Stowage c.args.ground) Nobody c.args.position c.requires.sound c.args.nodes.now c.args.slabs c.requires.laid c.requires.roomy c.unwrap_or.result.now
+    c.write-count.result c.write-count.ensures.count
+
+pub returns : goal.returns
+returns g c =
+    let old = below_root c.args.served (own_slab c.args.nodes.now c.args.slabs) in
+    let own = c.own_nodes-own.ensures ∙ own_before c.args.nodes.now c.args.slabs c.requires.laid c.split_at_mut-vans.result.0.now c.split_at_mut-vans.ensures.front in
+    let read = ap (λ h. h.now) c.unwrap_or.ensures ∙ below_found c.args.served c.own_nodes-own.result.now c.find_child.result _ refl c.find_child.ensures ∙ ap (below_root c.args.served) own in
+    let all = regrown (rules_of g.R.Roads g.S.Stowage c.args.ground) Nobody c.args.position c.requires.sound c.args.nodes.now c.args.slabs c.requires.laid c.requires.roomy c.unwrap_or.result.now
+    (record { roads = g.met.R.Roads.lawful c.args.ground.roads.now; exchange = g.met.S.Stowage.exchange c.args.ground.rule.now }) old read
+    c.split_at_mut-vans.result.0.now c.split_at_mut-vans.result.1.now c.write-count.new.nodes c.take_over.new.nodes c.write-count.result
+    c.split_at_mut-vans.ensures.front c.split_at_mut-vans.ensures.back c.write-count.ensures.written c.write-count.ensures.count c.take_over.ensures in
     record { replaced = all.0; count = all.1; exact = all.2 }

@@ -1,26 +1,20 @@
--- Each turn looks at one booking.
-use Rattle.std.proofs.Common.{◌+◌, Bool, List, get_or, drop, None, Option, sym, ◌∙◌}
-use Rattle.std.proofs.lemmas.List.{at_drop_more, at_drop_all}
+-- No booking is open if each place has none.
+use Rattle.std.proofs.Common.{◌≡◌, List, [], ◌∷◌, Some, None, Option, refl, ◌∙◌, rules, tests}
+use Rattle.std.proofs.lemmas.Iterator.{YieldsList-from_slice}
+use Rattle.std.proofs.lemmas.Iterator.Search.{all_from_yields_List}
+use Rattle.std.specs.List.{list_all}
+use Rattle.std.specs.Option.{is_none}
 use Rattle.orders.specs.declared.Booking.{Booking}
 use Rattle.growth.specs.Positions.{compact}
 use Rattle.growth.specs.Surveys.{none_open}
-use Rattle.growth.proofs.Tallies.{open_some, open_none}
 use Rattle.growth.proofs.tally.nothing_open.Goals as goal
 
-abbrev idle : List (Option Booking) → Bool
-idle bs = none_open (compact bs)
-
-pub returns-then-is_some : goal.returns-then-is_some
-returns-then-is_some c =
-    sym (open_some (get_or c.args.bookings.now c.loop-booking.booking-index None) (drop (c.loop-booking.booking-index + 1) c.args.bookings.now) c.if-is_some.ensures)
-    ∙ sym (at_drop_more idle c.args.bookings.now c.loop-booking.booking-index None c.loop-booking-test.true)
-    ∙ c.loop-booking.invariant
-
-pub loop-booking-preserved : goal.loop-booking-preserved
-loop-booking-preserved c =
-    sym (open_none (get_or c.args.bookings.now c.loop-booking.booking-index None) (drop (c.loop-booking.booking-index + 1) c.args.bookings.now) c.if-is_some.ensures)
-    ∙ sym (at_drop_more idle c.args.bookings.now c.loop-booking.booking-index None c.loop-booking-test.true)
-    ∙ c.loop-booking.invariant
+each_none : (bs : List (Option Booking)) → list_all is_none bs ≡ none_open (compact bs)
+each_none [] = refl
+each_none (None ∷ bs) = each_none bs
+each_none (Some b ∷ bs) = refl
 
 pub returns : goal.returns
-returns c = sym (at_drop_all idle c.args.bookings.now c.loop-booking.booking-index c.loop-booking-test.false) ∙ c.loop-booking.invariant
+returns c =
+    all_from_yields_List is_none _ _ c.all.result c.all.ensures.ran (YieldsList-from_slice c.args.bookings.now cc) (λ x b q k. search (rules, tests))
+    ∙ each_none c.args.bookings.now

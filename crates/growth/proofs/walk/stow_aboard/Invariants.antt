@@ -3,7 +3,7 @@ use Rattle.std.proofs.Common.{◌≡◌, drop}
 use Rattle.stowage.specs.Together.{stowed}
 use Rattle.orders.specs.Bookings.{loads}
 use Rattle.growth.specs.Positions.{compact}
-use Rattle.growth.proofs.walk.fits.Given as goal
+use Rattle.growth.proofs.walk.stow_aboard.Given as goal
 
 -- the loads yet to come, into the hold so far, end as all loads do from the empty hold
 abbrev pub invariant-loop-booking : goal.invariant-loop-booking

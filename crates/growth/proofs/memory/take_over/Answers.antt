@@ -1,8 +1,0 @@
--- Copied, filled up with blanks, and the working slab cleared.
-use Rattle.growth.proofs.Replacing.{copied_over}
-use Rattle.growth.proofs.memory.take_over.Goals as goal
-
-pub returns : goal.returns
-returns c =
-    copied_over c.args.nodes.now c.args.slabs c.requires.laid c.args.count c.requires.fits
-    c.copy_down.new.nodes c.clear.new.nodes c.clear-2.new.nodes c.copy_down.ensures c.clear.ensures c.clear-2.ensures

@@ -1,0 +1,20 @@
+-- The calls end with the open stops, and the turns join the tallies of the bookings.
+use Rattle.std.proofs.Common.{◌+◌, ◌*◌, drop}
+use Rattle.orders.specs.Bookings.{stops}
+use Rattle.growth.specs.Grounds.{rules_of}
+use Rattle.growth.specs.Positions.{compact, walk_of}
+use Rattle.growth.proofs.Tallies.{Tallied}
+use Rattle.growth.proofs.tally.Growth.+tally.Given as goal
+
+-- each call of a tally from within another has one open stop less
+abbrev pub decreases-tally : goal.decreases-tally
+decreases-tally g l = 2 * stops (compact l.self.position.bookings) + 1
+
+abbrev pub decreases-try_next : goal.decreases-try_next
+decreases-try_next g l = 2 * stops (compact l.self.position.bookings)
+
+-- the tally so far, joined with that of the bookings yet to come, is the whole tally
+abbrev pub invariant-tally-loop-i : goal.invariant-tally-loop-i
+invariant-tally-loop-i g l =
+    Tallied (rules_of g.R.Roads g.S.Stowage l.self.ground)
+    l.self.fresh l.self.old.now (walk_of l.self.position) (compact (drop l.i l.self.position.bookings)) l.count l.least
