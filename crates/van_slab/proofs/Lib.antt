@@ -1,3 +1,4 @@
+-- Declares the lemmas that the proofs share.
 pub mod Entered
 pub mod Told
 pub mod Equal

@@ -1,2 +1,3 @@
+-- Declares the definitions that the contracts cite.
 pub mod Town
 pub mod Examples
