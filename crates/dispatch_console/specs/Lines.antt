@@ -53,7 +53,8 @@ worded word.Nodes rest = option_and_then as_nodes (numbers_of rest)
 worded word.Make rest = option_and_then as_make (numbers_of rest)
 worded (word.Call w) rest = option_map call (option_and_then (as_call w) (numbers_of rest))
 
--- what a line asks for by the word that it begins with, else what it asks for on a day without a dispatcher
+-- what a line asks for by the word that it begins with, else what it asks for on a day without a dispatcher; no word is empty
+-- or begins with '#'
 abbrev pub headed : Option Word → List ℕ → Asked
 headed None line = plain (console.asked line)
 headed (Some w) line = unwrap_or (worded w (rest_of line)) (plain console.unclear)

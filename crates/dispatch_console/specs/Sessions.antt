@@ -1,8 +1,6 @@
 -- Defines what a running day is at a moment, and what each request changes in it and is answered.
 use Rattle.std.specs.Prelude.{◌≡◌, ℕ, ◌+◌, ◌*◌, cond, ◌&&◌, List, Some, None, Err, vec_items, Option, nat_le}
-use Rattle.quotes.specs.Quotes.{quoted}
 use Rattle.console.specs.Lines as console
-use Rattle.console.specs.Replies.{told as quote_told}
 use Rattle.console.specs.Tallies.{counted}
 use Rattle.console.specs.declared.reply.Reply.{Reply as PlainReply}
 use Rattle.console.specs.declared.reply.Reply.TheVariants.{Nothing, NotUnderstood}
@@ -12,6 +10,7 @@ use Rattle.orders.specs.Slabs.{slab_size}
 use Rattle.fleet.specs.Answers.{Answer, accepted}
 use Rattle.fleet.specs.declared.call.Call.{Call}
 use Rattle.fleet.specs.declared.state.State.{State}
+use Rattle.fleet.specs.Quotes.{quoted}
 use Rattle.fleet.specs.Terms.{Terms}
 use Rattle.outcomes.specs.Outcomes.{make_call}
 use Rattle.outcomes.specs.Runs.{Does}
@@ -22,7 +21,7 @@ use Rattle.dispatch_console.specs.declared.reply.Reply.{Reply}
 use Rattle.dispatch_console.specs.declared.reply.Reply.TheVariants.{Plain, Help}
 use Rattle.dispatch_console.specs.declared.session.Session.{Session}
 use Rattle.dispatch_console.specs.Lines.{Asked, plain, help, nodes, make, call}
-use Rattle.dispatch_console.specs.Replies.{answer_reply}
+use Rattle.dispatch_console.specs.Replies.{answer_reply, quote_reply}
 
 -- the present state, the node memory, and the calls so far
 pub record Moment : Type 0 where
@@ -50,14 +49,15 @@ pub record Called (t : Terms) (c : Call) (m m' : Moment) (reply : Reply) : Type 
   pub tally : m'.tally ≡ counted (accepted answer) m.tally
   pub told : reply ≡ answer_reply answer
 
--- what is answered to what a day without a dispatcher knows too; to set up is not due any more
+-- what is answered to what a day without a dispatcher knows too: a quote is refused as a booking is, and to set up is not
+-- due any more
 abbrev pub attended : Terms → console.Asked → PlainReply
 attended t console.nothing = Nothing
 attended t console.unclear = NotUnderstood
 attended t (console.table places seconds) = NotUnderstood
 attended t (console.grid columns rows east south) = NotUnderstood
 attended t (console.rule r) = NotUnderstood
-attended t (console.quote from to figures) = quote_told (quoted t.rules.places t.rules.trip t.promise from to figures)
+attended t (console.quote from to figures) = quote_reply (quoted t.rules.places t.rules.trip t.promise from to figures)
 
 -- what a request leads to while the dispatcher runs; to set up is not due any more
 abbrev pub Attends : Terms → Moment → Asked → Moment → Reply → Type 0
