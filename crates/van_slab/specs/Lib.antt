@@ -4,3 +4,4 @@ pub mod Trails
 pub mod Reading
 pub mod Laws
 pub mod Equality
+pub mod EqualityLemmas

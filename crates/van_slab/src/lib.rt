@@ -2,6 +2,7 @@
 #![tactic(auto)]
 
 ghost use Rattle.std.specs.Prelude.{◌≡◌, Decides};
+ghost use Rattle.std.specs.Cmp.{IsEquivalence};
 ghost use Rattle.orders.specs.Rules.{rules};
 ghost use Rattle.van_slab.specs.Equality.{same_itinerary};
 ghost use Rattle.van_slab.specs.Trails.{visit_of};
@@ -61,10 +62,12 @@ pub struct Itinerary {
     pub visits: [Visit; MOST_STOPS],
 }
 
-/// Whether two itineraries tell the same: all their parts are equal.
+/// Whether two itineraries tell the same: all their parts are equal. The test is an equivalence.
+#[tactic(auto, using(crate::specs::EqualityLemmas::same_itinerary_laws))]
 pub fn is_same(itinerary: &Itinerary, other: &Itinerary) -> bool
     ensures test { result ≡ same_itinerary itinerary.now other.now }
     ensures decides { Decides result (itinerary.now ≡ other.now) }
+    ensures laws { IsEquivalence same_itinerary }
 {
     itinerary == other
 }
