@@ -5,7 +5,7 @@ pub mod Branched
 pub mod Counts
 pub mod Tallies
 pub mod Turns
-pub mod Writing
+pub mod Stacks
 pub mod Changed
 pub mod Surveyed
 pub mod Pasted

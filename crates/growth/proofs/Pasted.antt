@@ -1,6 +1,6 @@
 -- Shows what memory holds once rows are written to it, one after the other.
 use Rattle.std.proofs.Common.{◌≡◌, ℕ, suc, ◌+◌, ◌-◌, ◌<◌, ◌≤◌, List, [], ◌∷◌, ◌++◌, length, get_or, take, drop, set, sym, refl, ap, ◌∙◌, ⊎_elim, append_assoc, arith}
-use Rattle.std.proofs.lemmas.List.{length-take, length-drop, length-append, get_or_append_left, get_or-append_right, get_or-take, get_or-drop, take_more_set, drop-set-lt, same_lists, drop_at, take_at, take-append-drop, drop-drop}
+use Rattle.std.proofs.lemmas.List.{length-take, length-drop, length-append, get_or_append_left, get_or-append_right, get_or-take, get_or-drop, take_more_set, drop-set-lt, same_lists, drop_at, take_at, drop-drop}
 use Rattle.std.proofs.lemmas.Bool.{cases_lt}
 use Rattle.orders.specs.declared.Node.{Node}
 use Rattle.growth.specs.Guides.{row}
@@ -13,9 +13,6 @@ pasted_one memory at x xs h =
     ap (λ l. l ++ (xs ++ drop (at + 1 + length xs) (set memory at x))) (take_more_set memory at x h)
     ∙ append_assoc (take at memory) (x ∷ []) (xs ++ drop (at + 1 + length xs) (set memory at x))
     ∙ ap (λ l. take at memory ++ (x ∷ (xs ++ l))) (drop-set-lt (at + 1 + length xs) memory at x (omega arith) ∙ ap (λ n. drop n memory) (let e : at + 1 + length xs ≡ at + suc (length xs) = omega arith in e))
-
-pub pasted_none : (memory : List Node) (at : ℕ) → pasted memory at [] ≡ memory
-pasted_none memory at = ap (λ n. take at memory ++ drop n memory) (let e : at + 0 ≡ at = omega arith in e) ∙ take-append-drop at memory
 
 module _ (memory : List Node) (at : ℕ) (xs : List Node) (fits : at + length xs ≤ length memory) where
   front : length (take at memory) ≡ at

@@ -7,3 +7,4 @@ pub mod Surveys
 pub mod Memory
 pub mod Slabs
 pub mod Roots
+pub mod Frames

@@ -93,7 +93,7 @@ pub fn regrow<R: Roads, S: Stowage>(
         fresh,
         position,
     };
-    let count = tree.write(1, work);
+    let count = tree.write(work);
     slabs.take_over(nodes, count);
     count
 }
@@ -122,7 +122,7 @@ pub fn prune<R: Roads, S: Stowage>(
         fresh: Fresh::Nobody,
         position,
     };
-    let count = tree.write(1, work);
+    let count = tree.write(work);
     slabs.take_over(nodes, count);
     count
 }

@@ -12,7 +12,7 @@ use roads::Roads;
 use stowage::Stowage;
 
 /// Where a van is in its walk. Its open bookings ascend by number, with gaps.
-#[derive(Clone, Copy)]
+#[derive(Clone, Copy, Default)]
 pub struct Position {
     pub place: u32,
     pub second: u32,

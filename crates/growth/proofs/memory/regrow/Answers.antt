@@ -1,13 +1,9 @@
 -- Along a slab that suffices the kinetic tree grows.
-use Rattle.std.proofs.Common.{◌∙◌, arith}
+use Rattle.std.proofs.Common.{◌∙◌}
 use Rattle.growth.specs.Grounds.{rules_of}
 use Rattle.growth.specs.Slabs.{own_slab}
-use Rattle.growth.proofs.Counts.{eight_stops}
 use Rattle.growth.proofs.Replacing.{own_before, work_fits_row, count_fits, regrown}
 use Rattle.growth.proofs.memory.regrow.Goals as goal
-
-pub write-count-requires-clause-deep : goal.write-count-requires-clause-deep
-write-count-requires-clause-deep g c = let e = eight_stops c.args.position c.requires.sound in omega arith
 
 pub write-count-requires-clause-fits : goal.write-count-requires-clause-fits
 write-count-requires-clause-fits g c =
