@@ -20,8 +20,8 @@ use roads::Roads;
 use stowage::{Stowage, require};
 use van_slab::OpenLimit;
 
-// Kept: that there are nodes enough is a fact of the state and of nodes that each call is lent; a type for both would borrow
-// the dispatcher while its state changes.
+// Kept: that a number is a van's, and that there are nodes enough, are facts of the state and of what each call is given; a type
+// for them would borrow the dispatcher while its state changes.
 impl<'a, R: Roads, S: Stowage> Dispatcher<'a, R, S> {
     /// The open limit.
     fn limit(&self) -> OpenLimit

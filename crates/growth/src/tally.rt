@@ -97,6 +97,7 @@ impl<'a, R: Roads, S: Stowage> Growth<'a, R, S> {
         }
         let mut count = 0;
         let mut least = None;
+        // Kept: the number of a booking's place is what `try_next` takes, since serving its stop is a write to that place.
         for i in 0..4 {
             if let Some(root) = self.try_next(i) {
                 count += 1 + root.below;
