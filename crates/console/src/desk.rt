@@ -29,6 +29,7 @@ impl Site<'_> {
     pub fn quote(self, from: u32, to: u32, figures: [u32; 6]) -> Result<Promise, QuoteFault>
         ensures { result ≡ quoted_there (standing self.entry) from to figures }
     {
+        // Kept: each rule has a type of hold of its own, so that no `dyn` stands for both.
         match self.rule {
             Rule::Passengers => quote(self.roads, &Passengers, from, to, figures),
             Rule::Parcels => quote(self.roads, &Parcels, from, to, figures),

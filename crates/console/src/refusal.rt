@@ -9,6 +9,7 @@ use std::fmt;
 /// The number of a refusal, and a detail, 0 where it has none.
 #[derive(Clone, Copy, PartialEq, Eq, Debug)]
 pub struct Refusal {
+    // Kept: the rules tell each refusal by a number and a detail; what is refused is an enum until it is told.
     pub number: u32,
     pub detail: u32,
 }

@@ -58,6 +58,7 @@ fn make<B: BufRead + Drop>(
 ) -> io::Result<Option<Tally>>
     ensures { IfOk result (λ tally. IfNone tally (lines.new ≡ lines.old)) }
 {
+    // Kept: each rule has a type of hold of its own, so that no `dyn` stands for both.
     match site.rule {
         Rule::Passengers => run_session(rt, lines, site, &Passengers, size),
         Rule::Parcels => run_session(rt, lines, site, &Parcels, size),
