@@ -51,6 +51,7 @@ pub enum Word {
 
 impl Word {
     /// The word that a field is, if it is one.
+    // Kept: no `TryFrom`, since there is no error to tell.
     fn from_bytes(field: &[u8]) -> Option<Word>
         ensures { result ≡ word_of field.now }
     {
@@ -66,6 +67,7 @@ impl Word {
 
 impl Rule {
     /// The rule of that name, if there is one.
+    // Kept: no `TryFrom`, since there is no error to tell.
     fn from_bytes(name: &[u8]) -> Option<Rule>
         ensures { result ≡ rule_named name.now }
     {

@@ -30,6 +30,7 @@ impl From<QuoteFault> for Refusal {
 
     fn from(fault: QuoteFault) -> Refusal {
         match fault {
+            // Kept: the calls' refusals, which have these numbers too, are of a crate that a plain day does not need.
             QuoteFault::Place(place) => Refusal {
                 number: 11,
                 detail: place,

@@ -1,3 +1,4 @@
+-- Declares the definitions that the contracts cite.
 pub mod Words
 pub mod Lines
 pub mod Meaning

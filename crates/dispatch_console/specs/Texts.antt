@@ -4,6 +4,7 @@ use Rattle.std.specs.List.{flat_map}
 use Rattle.console.specs.Replies.{reply_text as plain_text}
 use Rattle.van_slab.specs.declared.Itinerary.{Itinerary}
 use Rattle.van_slab.specs.declared.Visit.{Visit}
+use Rattle.van_slab.specs.Trails.{kind_told}
 use Rattle.fleet.specs.declared.call.Booked.{Booked}
 use Rattle.fleet.specs.declared.call.Report.{Report}
 use Rattle.fleet.specs.declared.call.Report.TheVariants as report
@@ -19,10 +20,6 @@ booked_text b =
     ++ (codes " price " ++ (decimal b.price
     ++ (codes " pickup " ++ (decimal b.pickup
     ++ (codes " drop " ++ decimal b.dropoff))))))
-
--- the kind that a number in node memory tells: 0 is a pickup, each other a drop-off
-abbrev pub kind_told : ℕ → StopKind
-kind_told number = cond (number == 0) Pickup DropOff
 
 -- what a stop is called
 abbrev pub kind_text : StopKind → List ℕ

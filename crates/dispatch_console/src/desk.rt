@@ -16,6 +16,7 @@ pub struct Desk {
 }
 
 /// What a dispatcher is to be made of: roads, a rule, and so many nodes if a number was given.
+// Kept: three parts of one level, as the program hands them on.
 #[derive(Clone, Copy)]
 pub struct Site<'a> {
     pub roads: &'a AnyRoads,
@@ -28,6 +29,7 @@ pub struct Site<'a> {
 pub enum Step {
     Answered(Reply),
     /// Roads and rule stand, and a dispatcher is to be made.
+    // Kept: a step that lent the site would lend the desk, and nothing could be told of the desk after it.
     Make(Size),
 }
 

@@ -2,7 +2,7 @@
 ghost use Rattle.std.specs.Prelude.{◌≡◌, Some};
 ghost use Rattle.std.specs.Fmt.{WritesOnOk};
 ghost use Rattle.dispatch_console.specs.Replies.{answer_reply, refusal_reply};
-ghost use Rattle.dispatch_console.specs.Texts.{kind_told as kind_by_number, kind_text, stop_text, more_text, stops_text, itinerary_text, report_text, help_text, reply_text};
+ghost use Rattle.dispatch_console.specs.Texts.{kind_text, stop_text, more_text, stops_text, itinerary_text, report_text, help_text, reply_text};
 ghost use Rattle.dispatch_console.specs.declared.reply.Reply.TheVariants.{Plain};
 
 use fleet::{Answer, Booked, Refusal, Report};
@@ -50,6 +50,7 @@ impl From<Answer> for Reply {
     }
 }
 
+// Kept: no `Display`, since the types are other crates' and their text is this console's.
 /// Writes what the program knows.
 fn write_help<W: fmt::Write>(f: &mut fmt::Formatter<W>) -> fmt::Result
     ensures { WritesOnOk W.Write.write_str_gives f.old result help_text f.new }
@@ -60,17 +61,6 @@ fn write_help<W: fmt::Write>(f: &mut fmt::Formatter<W>) -> fmt::Result
         call: clock,T join,van,place,T leave,van book,number,from,to,f1,f2,f3,f4,f5,f6\n\
         call: bound,van,place,T served,van,number,T cancel,number plan,van order,van,i",
     )
-}
-
-/// The kind that a number in node memory tells: each but 0 is a drop-off.
-fn kind_told(number: u32) -> StopKind
-    ensures { result ≡ kind_by_number number }
-{
-    if number == 0 {
-        StopKind::Pickup
-    } else {
-        StopKind::DropOff
-    }
 }
 
 /// What a stop is called.
@@ -89,10 +79,10 @@ fn write_stop<W: fmt::Write>(f: &mut fmt::Formatter<W>, mark: &str, visit: Visit
 {
     let Visit {
         booking,
-        kind,
         second,
+        ..
     } = visit;
-    let name = kind_name(kind_told(kind));
+    let name = kind_name(visit.stop_kind());
     write!(f, "{mark}{booking} {name} {second}")
 }
 

@@ -27,6 +27,7 @@ pub enum Word {
 
 impl CallWord {
     /// The word of a call that a field is, if it is one.
+    // Kept: no `TryFrom`, since there is no error to tell.
     fn from_bytes(field: &[u8]) -> Option<CallWord>
         ensures { result ≡ call_word field.now }
     {
@@ -47,6 +48,7 @@ impl CallWord {
 
 impl Word {
     /// The word that a field is, if it is one.
+    // Kept: no `TryFrom`, since there is no error to tell.
     pub(crate) fn from_bytes(field: &[u8]) -> Option<Word>
         ensures { result ≡ word_of field.now }
     {

@@ -6,7 +6,7 @@ ghost use Rattle.outcomes.specs.Settled.{untouched, one_van, holding_van, Writes
 ghost use Rattle.outcomes.specs.Outcomes.{with_nodes};
 
 use crate::Dispatcher;
-use fleet::Refusal;
+use fleet::{Refusal, holder};
 use growth::Fresh;
 use orders::{Node, StopKind};
 use roads::Roads;
@@ -78,7 +78,7 @@ impl<'a, R: Roads, S: Stowage> Dispatcher<'a, R, S> {
         ensures nodes { Writes (rules_of R.Roads S.Stowage self.old.ground) self.old.state nodes.old (holding_van self.old.state number) (is_ok result) self.new.state nodes.new }
     {
         self.require_nodes(nodes)?;
-        let (i, _) = self.state.holder(number).ok_or(Refusal::NotOpen)?;
+        let (i, _) = holder(&self.state.vans, number).ok_or(Refusal::NotOpen)?;
         self.state.cancel(number)?;
         self.renew(nodes, i as u32 + 1, Fresh::Everybody);
         Ok(())

@@ -97,10 +97,8 @@ impl<'a, R: Roads, S: Stowage> Dispatcher<'a, R, S> {
         requires { is_van self.now.state van ≡ true }
         ensures { (w : OnDuty) → van_at self.now.state van ≡ Some w → result ≡ nat_lt w.place (R.Roads.places self.now.ground.roads.now) }
     {
-        match self.state.van(van) {
-            Some(w) => w.place < self.ground.roads.places(),
-            None => false,
-        }
+        let places = self.ground.roads.places();
+        self.state.van(van).is_some_and(|w| w.place < places)
     }
 
     /// The slab of a van that has served a stop of this booking: what stood below the stop, if it was served as an order may

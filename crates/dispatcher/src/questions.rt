@@ -37,10 +37,8 @@ fn order_in(van: Van, slab: &[Node], index: u32) -> Option<Itinerary>
 {
     if van.open_count() > 0 {
         order_at(slab, index)
-    } else if index == 0 {
-        Some(IDLE)
     } else {
-        None
+        (index == 0).then_some(IDLE)
     }
 }
 

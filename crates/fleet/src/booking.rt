@@ -6,7 +6,7 @@ ghost use Rattle.fleet.specs.States.{is_van, open_bookings, requested, taking, t
 ghost use Rattle.fleet.specs.SoundTest.{is_sound};
 
 use crate::slots::insert_booking;
-use crate::{Refusal, State, Van};
+use crate::{Refusal, State, Van, holder};
 use growth::Ground;
 use orders::{Booking, Journey, Stop};
 use quotes::quote;
@@ -41,7 +41,7 @@ impl State {
         ensures { result ≡ requested (terms_of R.Roads S.Stowage ground.entry) self.now number from to figures }
     {
         require(is_number(number), Refusal::BadNumber)?;
-        require(self.holder(number).is_none(), Refusal::AlreadyOpen)?;
+        require(holder(&self.vans, number).is_none(), Refusal::AlreadyOpen)?;
         let promise = quote(ground.roads, ground.rule, from, to, figures)?;
         Ok(Booking::Waiting {
             pickup: Stop {

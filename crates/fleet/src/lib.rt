@@ -12,4 +12,4 @@ mod state;
 pub use call::{Answer, Booked, Call, Offer, Report};
 pub use refusal::Refusal;
 pub use slots::{Slots, find_booking, insert_booking, remove_booking, serve_booking};
-pub use state::{State, Van};
+pub use state::{State, Van, holder};

@@ -21,6 +21,7 @@ impl State {
         van: u32,
         n: u32,
         time: u32,
+        // Kept: three plain values.
     ) -> Result<(StopKind, u32, u32), Refusal>
         requires { is_sound self.old ≡ true }
         ensures { Acts (served_call (rules_of R.Roads S.Stowage ground.entry) self.old van n time) self.old self.new result }

@@ -17,16 +17,16 @@ pub struct Van {
     pub place: u32,
     pub second: u32,
     pub driven: u32,
-    // Kept: four places in fixed memory, so that equal states are equal values.
+    // Kept: a small plain array passed by value, so that a van is `Copy`.
     pub bookings: [Option<Booking>; 4],
 }
 
 /// The present state: so many vans, by number from 1, none where one is off duty.
 // Kept: this is the plain record in which the calls are defined; were it sound by a ghost field, each definition of what a call
-// changes would carry a proof. The dispatcher above has that field.
+// changes would carry a proof. The dispatcher above has that field. So the open limit is its number here.
 #[derive(Clone, Copy)]
 pub struct State {
-    // Kept: the vans stand in fixed memory, the places beyond their number unused.
+    // Kept: a plain array, the places beyond this number unused, so that a state is `Copy`.
     pub size: u32,
     pub open_limit: u32,
     pub clock: u32,
@@ -166,25 +166,12 @@ impl State {
         Ok(())
     }
 
-    /// The first van, by its place from 0, on which the booking of this number is open, and the booking.
-    pub fn holder(&self, n: u32) -> Option<(usize, Booking)>
-        ensures value { result ≡ holder_of n 0 self.now.vans }
-        ensures within { IfSome result (λ h. h.0 < 32) }
-    {
-        for (i, slot) in self.vans.iter().enumerate() {
-            if let Some(booking) = open_on(*slot, n) {
-                return Some((i, booking));
-            }
-        }
-        None
-    }
-
     /// The waiting booking of this number is gone.
     pub fn cancel(&mut self, n: u32) -> Result<(), Refusal>
         requires { Sound self.old }
         ensures { Changes (cancel_call self.old n) self.old self.new result }
     {
-        let (i, booking) = self.holder(n).ok_or(Refusal::NotOpen)?;
+        let (i, booking) = holder(&self.vans, n).ok_or(Refusal::NotOpen)?;
         require(booking.kind() == StopKind::Pickup, Refusal::Aboard)?;
         let van = self.vans[i].ok_or(Refusal::OffDuty)?;
         self.vans[i] = Some(Van {
@@ -211,4 +198,17 @@ fn open_on(slot: Option<Van>, n: u32) -> Option<Booking>
     ensures { result ≡ open_on n slot }
 {
     find_booking(slot?.bookings, n)
+}
+
+/// The first van, by its place from 0, on which the booking of this number is open, and the booking.
+pub fn holder(vans: &[Option<Van>; 32], n: u32) -> Option<(usize, Booking)>
+    ensures value { result ≡ holder_of n 0 vans.now }
+    ensures within { IfSome result (λ h. h.0 < 32) }
+{
+    for (i, slot) in vans.iter().enumerate() {
+        if let Some(booking) = open_on(*slot, n) {
+            return Some((i, booking));
+        }
+    }
+    None
 }

@@ -18,6 +18,7 @@ use stowage::Stowage;
 struct Frame<'a> {
     old: &'a [Node],
     position: Position,
+    // Kept: the loop comes back to a frame, so that the place to try next has to wait in it.
     next: usize,
 }
 

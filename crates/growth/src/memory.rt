@@ -98,6 +98,7 @@ pub fn regrow<R: Roads, S: Stowage>(
     count
 }
 
+// Kept: this differs from `regrow` in where it looks on; a closure for that would be lent nodes of the memory that is written.
 /// A van has served the next stop of a booking, on time and within its limit: its slab gets what stood below that stop, as
 /// far as that is still valid.
 pub fn prune<R: Roads, S: Stowage>(

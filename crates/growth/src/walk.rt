@@ -18,6 +18,7 @@ pub struct Position {
     pub second: u32,
     pub driven: u32,
     pub cost: u32,
+    // Kept: a small plain array passed by value, with gaps.
     pub bookings: [Option<Booking>; 4],
 }
 

@@ -1,3 +1,4 @@
+-- Declares the lemmas that the proofs share.
 pub mod Basics
 pub mod Steps
 pub mod Inserted

@@ -1,0 +1,1 @@
+-- Declares the lemmas that the proofs share: none.

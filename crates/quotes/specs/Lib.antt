@@ -1,1 +1,2 @@
+-- Declares the definitions that the contracts cite.
 pub mod Quotes

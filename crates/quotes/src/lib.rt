@@ -25,6 +25,7 @@ impl From<BadFigure> for QuoteFault {
 }
 
 /// What a booking with these figures would be promised, or the first fault of its places, then of its figures.
+// Kept: the calls name places and figures one by one.
 pub fn quote<R: Roads, S: Stowage>(
     roads: &R,
     rule: &S,

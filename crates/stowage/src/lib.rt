@@ -101,6 +101,7 @@ pub fn stow_all<S: Stowage>(rule: &S, loads: &[Load]) -> Option<S::Hold>
     ensures { StowsAll (S.Stowage.stow rule.now) (S.Stowage.empty rule.now) loads.now result }
 {
     let mut hold = rule.empty();
+    // Kept: by `try_fold` the equation stayed open.
     for load in loads {
         hold = rule.stow(hold, *load)?;
     }

@@ -16,6 +16,7 @@ pub struct Parcels;
 fn lifted(litres: u32, kilograms: u32) -> Option<Cargo>
     ensures { result ≡ taken litres kilograms }
 {
+    // Kept: the hold is made where the test of its limits is known.
     if litres <= 6_000 && kilograms <= 900 {
         Some(Cargo { litres, kilograms })
     } else {
@@ -68,6 +69,7 @@ impl Stowage for Parcels {
         require_figure(drop_opens <= WEEK, 5)?;
         require_figure(drop_opens <= drop_closes && drop_closes <= WEEK, 6)?;
         Ok(Promise {
+            // Kept: the tests above say that both fit.
             load: Load {
                 first: litres as u16,
                 second: kilograms as u16,

@@ -18,6 +18,7 @@ pub struct Passengers;
 fn seated(seats: u32, wheelchairs: u32) -> Option<Seating>
     ensures { result ≡ taken seats wheelchairs }
 {
+    // Kept: the hold is made where the test of its limits is known.
     if wheelchairs <= 2 && seats <= 8 && seats + 2 * wheelchairs <= 8 {
         Some(Seating { seats, wheelchairs })
     } else {
@@ -73,6 +74,7 @@ impl Stowage for Passengers {
         require_figure(percent <= 300, 5)?;
         require_figure(arrive_by <= WEEK, 6)?;
         Ok(Promise {
+            // Kept: the tests above say that both fit.
             load: Load {
                 first: seats as u16,
                 second: wheelchairs as u16,

@@ -8,7 +8,7 @@ mod pair;
 
 use growth::Ground;
 use largest::{DottedRoads, grow_three, survey_four};
-use orders::Node;
+use orders::{Node, StopKind};
 use pair::{Day, Ride, stop};
 use roads::{Grid, RoadTable, Roads};
 use std::io;
@@ -20,7 +20,10 @@ fn print_order(rt: &HostRuntime, order: Itinerary) -> io::Result<()> {
     let cost = order.cost;
     print!(rt; "  cost {cost}:")?;
     for visit in order.visits.iter().take(order.stops as usize) {
-        let kind = if visit.kind == 0 { "pickup" } else { "drop" };
+        let kind = match visit.stop_kind() {
+            StopKind::Pickup => "pickup",
+            StopKind::DropOff => "drop",
+        };
         print!(rt; " {} {kind} {}", visit.booking, visit.second)?;
     }
     println!(rt; "")

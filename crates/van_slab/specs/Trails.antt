@@ -3,6 +3,8 @@ use Rattle.std.specs.Prelude.{ℕ, ◌+◌, ◌-◌, Bool, cond, ◌&&◌, List,
 use Rattle.std.specs.Option.{option_map}
 use Rattle.std.specs.List.{slice_get}
 use Rattle.orders.specs.declared.Node.{Node}
+use Rattle.orders.specs.declared.StopKind.{StopKind}
+use Rattle.orders.specs.declared.StopKind.TheVariants.{Pickup, DropOff}
 use Rattle.van_slab.specs.declared.Visit.{Visit}
 use Rattle.van_slab.specs.declared.Itinerary.{Itinerary}
 
@@ -62,3 +64,7 @@ cheapest_order xs = option_map told (cheapest_trail (trails [] xs))
 -- the itinerary of the order at an index from 0, in the sequence of the slab
 abbrev pub order_at : List Node → ℕ → Option Itinerary
 order_at xs i = option_map told (slice_get (trails [] xs) i)
+
+-- the kind that a number in node memory tells: 0 is a pickup, each other a drop-off
+abbrev pub kind_told : ℕ → StopKind
+kind_told number = cond (number == 0) Pickup DropOff

@@ -5,10 +5,10 @@ ghost use Rattle.std.specs.Prelude.{◌≡◌, Decides};
 ghost use Rattle.std.specs.Cmp.{IsEquivalence};
 ghost use Rattle.orders.specs.Rules.{rules};
 ghost use Rattle.van_slab.specs.Equality.{same_itinerary};
-ghost use Rattle.van_slab.specs.Trails.{visit_of};
+ghost use Rattle.van_slab.specs.Trails.{visit_of, kind_told};
 ghost use Rattle.van_slab.specs.Laws.{ExactReading, BoundedReading};
 
-use orders::Node;
+use orders::{Node, StopKind};
 use roads::Roads;
 use stowage::Stowage;
 
@@ -38,6 +38,17 @@ impl Visit {
         kind: 0,
         second: 0,
     };
+
+    /// The kind of the stop, as its number tells it: what is not 0 is a drop-off.
+    pub fn stop_kind(self) -> StopKind
+        ensures { result ≡ kind_told self.kind }
+    {
+        if self.kind == 0 {
+            StopKind::Pickup
+        } else {
+            StopKind::DropOff
+        }
+    }
 }
 
 /// What a node tells of its stop.
@@ -57,7 +68,7 @@ impl From<Node> for Visit {
 #[derive(Clone, Copy, PartialEq, Eq, Debug)]
 pub struct Itinerary {
     pub cost: u32,
-    // Kept: an answer is a cost, a number of stops and eight places, and takes no memory of its own.
+    // Kept: a small plain array passed by value, so that an answer is `Copy`.
     pub stops: u32,
     pub visits: [Visit; MOST_STOPS],
 }

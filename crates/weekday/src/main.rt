@@ -3,6 +3,7 @@
 
 use std::io;
 
+// Kept: a program is run on the day that lies beside it, so that each day has one.
 fn main(rt: HostRuntime) -> io::Result<()> {
     program::run(&rt)
 }

@@ -6,6 +6,7 @@ ghost use Rattle.roads.specs.TableFaults.{Refuses};
 use crate::{MOST_PLACES, RoadFault};
 
 /// The most seconds that a trip may take.
+// Kept: stowage rules have this number too, and neither crate knows the other.
 const LONGEST_TRIP: u32 = 14_400;
 
 /// A table of 1 to 64 places, with the seconds from each to each, row by row.

@@ -1,6 +1,0 @@
-use Rattle.std.proofs.Common.{◌≡◌, drop}
-use Rattle.fleet.specs.States.{holder_of}
-use Rattle.fleet.proofs.state.State.holder.Given as goal
-
-abbrev pub invariant-loop-i : goal.invariant-loop-i
-invariant-loop-i l = holder_of l.n l.i (drop l.i l.self.vans) ≡ holder_of l.n 0 l.self.vans
