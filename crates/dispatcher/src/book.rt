@@ -99,7 +99,7 @@ impl<'a, R: Roads, S: Stowage> Dispatcher<'a, R, S> {
         ensures { result ≡ told_offer (rules_of R.Roads S.Stowage self.now.ground) self.now.state nodes.now booking }
     {
         let mut best = None;
-        // Kept: this counts the vans' numbers, by which they are asked, and is no index.
+        // Kept: the proof of `1..=n` was tried, and has to cite a name that the prover may change.
         for van in 1..self.state.size + 1 {
             best = better_of(best, van, self.ask(nodes, van, booking));
         }
