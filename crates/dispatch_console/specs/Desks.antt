@@ -1,8 +1,6 @@
 -- Defines what stands on the desk, and what each request changes and leads to.
 use Rattle.std.specs.Prelude.{◌≡◌, ℕ, Some, None, Option, option_map}
 use Rattle.console.specs.Desks as console
-use Rattle.console.specs.Desks.{Laid, laid}
-use Rattle.console.specs.declared.command.Rule.{Rule}
 use Rattle.console.specs.declared.reply.Reply.{Reply as PlainReply}
 use Rattle.console.specs.declared.reply.Reply.TheVariants as plainly
 use Rattle.dispatch_console.specs.declared.command.Size.{Size}
@@ -27,16 +25,15 @@ unset = record { plain = console.unset; nodes = None }
 
 -- what a dispatcher is to be made of
 pub record Standing : Type 0 where
-  pub roads : Laid
-  pub rule : Rule
+  pub plain : console.Standing
   pub nodes : Option ℕ
 
 abbrev pub standing : Site → Standing
-standing x = record { roads = laid x.roads.now; rule = x.rule; nodes = x.nodes }
+standing x = record { plain = console.standing x.plain; nodes = x.nodes }
 
 -- roads and rule, once both stand, and the number of nodes
 abbrev pub stands : Setting → Option Standing
-stands s = option_map (λ (x : console.Standing). record { roads = x.roads; rule = x.rule; nodes = s.nodes }) (console.stands s.plain)
+stands s = option_map (λ (x : console.Standing). record { plain = x; nodes = s.nodes }) (console.stands s.plain)
 
 -- a dispatcher is made once roads and rule stand
 abbrev pub make_step : Option Standing → Size → Step

@@ -5,8 +5,6 @@ ghost use Rattle.dispatch_console.specs.Desks.{setting, unset, standing, stands,
 ghost use Rattle.dispatch_console.specs.Meaning.{meaning};
 
 use crate::{Command, Reply, Size};
-use console::Rule;
-use roads::AnyRoads;
 
 /// The roads, the rule and the number of nodes that stand, as far as they were given.
 #[derive(Default, Drop)]
@@ -16,11 +14,9 @@ pub struct Desk {
 }
 
 /// What a dispatcher is to be made of: roads, a rule, and so many nodes if a number was given.
-// Kept: three parts of one level, as the program hands them on.
 #[derive(Clone, Copy)]
 pub struct Site<'a> {
-    pub roads: &'a AnyRoads,
-    pub rule: Rule,
+    pub plain: console::Site<'a>,
     pub nodes: Option<u32>,
 }
 
@@ -45,10 +41,8 @@ impl Desk {
     pub fn site(&self) -> Option<Site<'_>>
         ensures { option_map standing result ≡ stands (setting self.now) }
     {
-        let console::Site { roads, rule } = self.plain.site()?;
         Some(Site {
-            roads,
-            rule,
+            plain: self.plain.site()?,
             nodes: self.nodes,
         })
     }

@@ -45,6 +45,7 @@ fn is_visit(visit: &Visit, booking: u32, kind: StopKind) -> bool
 }
 
 /// The second of a booking's stop among visits, 0 where it is none of them.
+// Kept: 0 and no `Option`, since on nodes that are not its own a dispatcher tells it as it is.
 fn second_of(visits: &[Visit], booking: u32, kind: StopKind) -> u32
     ensures { result ≡ second_of booking (kind_number kind) visits.now }
 {

@@ -31,6 +31,7 @@ pub(crate) fn node_count(vans: u32, limit: OpenLimit) -> usize
 }
 
 /// How many nodes a dispatcher needs: one slab for each van and one more. None where the numbers are out of range.
+// Kept: 0 and no `Option`, since what could not fail still cannot.
 pub fn nodes_needed(vans: u32, open_limit: u32) -> usize
     ensures { result ≡ (if leb 1 vans && nat_le vans 32 then (vans + 1) * slab_size open_limit else 0) }
 {

@@ -81,6 +81,7 @@ impl<'a, R: Roads, S: Stowage> Dispatcher<'a, R, S> {
         }
     }
 
+    // Kept: this differs from `renew` as `prune` does from `regrow`, in what is called.
     /// The slab of a van that has served a stop of this booking, on time and within its limit, gets what stood below it.
     fn renew_below(&self, nodes: &mut [Node], van: u32, booking: u32)
         requires within { is_van self.now.state van ≡ true }

@@ -31,7 +31,7 @@ fn run_session<S: Stowage, B: BufRead + Drop>(
 {
     let heap = rt.alloc();
     let ground = Ground {
-        roads: site.roads,
+        roads: site.plain.roads,
         rule,
     };
     let mut session = match Session::begin(heap, ground, site.nodes, size) {
@@ -59,7 +59,7 @@ fn make<B: BufRead + Drop>(
     ensures { IfOk result (λ tally. IfNone tally (lines.new ≡ lines.old)) }
 {
     // Kept: each rule has a type of hold of its own, so that no `dyn` stands for both.
-    match site.rule {
+    match site.plain.rule {
         Rule::Passengers => run_session(rt, lines, site, &Passengers, size),
         Rule::Parcels => run_session(rt, lines, site, &Parcels, size),
     }
