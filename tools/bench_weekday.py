@@ -4,9 +4,9 @@
     (cd crates/weekday && rt run < stdin > /dev/null)
     python3 tools/bench_weekday.py crates/weekday/out/weekday crates/weekday/stdin
 
-Seconds are the median of some runs of the whole day, all its other calls included. Positions are counted by valgrind, as calls of
-the functions that survey a position and that try a stop; stores follow from the number of trees that were written: a tree of n
-nodes is stored in the working slab and copied, and what is left of both slabs is made blank.
+Seconds are the median of some runs of the whole day, all its other calls included. Stops that are tried and trees that are
+written are counted by valgrind, as calls of the functions that do it; from a position each of four places is tried. Stores follow
+from the trees: one of n nodes is stored in the working slab and copied, and what is left of both slabs is made blank.
 """
 import re
 import statistics
@@ -50,11 +50,11 @@ def main(program, path):
     limit = int(re.findall(rb"^make,\d+,(\d+)$", day, re.M)[-1])
     took = statistics.median(seconds(program, day) for _ in range(RUNS))
     counts, instructions = calls(program, day)
-    trees = counts.get("growth::memory::regrow_along", 0)
+    trees = counts.get("growth::tally::Growth::write", 0)
+    tried = counts.get("growth::tally::Growth::try_next", 0)
     print(f"{lines} lines, {booked} of them bookings, in {took * 1000:.1f} ms: {booked / took:,.0f} bookings a second")
     print(f"instructions a line: {instructions // lines:,}")
-    print(f"positions surveyed a booking: {counts.get('growth::tally::tally_along', 0) / booked:,.0f}")
-    print(f"stops tried a booking: {counts.get('growth::guide::branch_off', 0) / booked:,.0f}")
+    print(f"positions visited a booking: {tried / 4 / booked:,.0f}, with {tried / booked:,.0f} places tried")
     print(f"trees written a booking: {trees / booked:.1f}, each {2 * SLAB[limit]:,} stores and one more for each of its nodes")
 
 
