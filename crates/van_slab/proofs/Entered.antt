@@ -1,8 +1,9 @@
 -- Shows when a node can follow a trail, and the trail to it.
-use Rattle.std.proofs.Common.{◌≡◌, ◌+◌, ◌<◌, ◌≤◌, true, ltb, leb, List, length}
-use Rattle.std.proofs.lemmas.Bool.{lt-ltb, le-leb, and_from, and_parts, ltb-true, leb-true}
+use Rattle.std.proofs.Common.{◌≡◌, ℕ, ◌+◌, ◌-◌, ◌<◌, ◌≤◌, true, false, ltb, leb, List, [], ◌∷◌, ◌++◌, length, take, set, sym, ap, ◌∙◌, arith}
+use Rattle.std.proofs.lemmas.List.{take_more_set, take-take}
+use Rattle.std.proofs.lemmas.Bool.{lt-ltb, le-ltb, le-leb, lt-leb, and_from, and_left, and_right, and_parts, ltb-true, leb-true}
 use Rattle.orders.specs.declared.Node.{Node}
-use Rattle.van_slab.specs.Trails.{follows}
+use Rattle.van_slab.specs.Trails.{follows, trail_to}
 
 -- x spans something, and stands at most one deeper, and at most eight deep
 pub record Follows (t : List Node) (x : Node) : Type 0 where
@@ -21,3 +22,25 @@ followed t x e =
     let q = and_parts (ltb 0 x.depth) _ p.1 in
     let r = and_parts (leb x.depth (length t + 1)) _ q.1 in
     record { spans = ltb-true _ _ p.0; below = ltb-true _ _ q.0; near = leb-true _ _ r.0; most = leb-true _ _ r.1 }
+
+module _ (t : List Node) (x : Node) where
+  pub no_span : x.span ≡ 0 → follows t x ≡ false
+  no_span e = and_left (ltb 0 x.span) _ (le-ltb 0 x.span (omega arith))
+
+  pub no_depth : x.depth ≡ 0 → follows t x ≡ false
+  no_depth e = and_right (ltb 0 x.span) _ (and_left (ltb 0 x.depth) _ (le-ltb 0 x.depth (omega arith)))
+
+  pub too_far : length t + 1 < x.depth → follows t x ≡ false
+  too_far h = and_right (ltb 0 x.span) _ (and_right (ltb 0 x.depth) _ (and_left (leb x.depth (length t + 1)) _ (lt-leb x.depth (length t + 1) h)))
+
+  pub too_deep : 8 < x.depth → follows t x ≡ false
+  too_deep h = and_right (ltb 0 x.span) _ (and_right (ltb 0 x.depth) _ (and_right (leb x.depth (length t + 1)) _ (lt-leb x.depth 8 h)))
+
+-- the trail to x, where x is written below the nodes above it
+pub written : (xs : List Node) (n : ℕ) (x : Node) → 0 < x.depth → x.depth ≤ n + 1 → x.depth ≤ length xs →
+    take x.depth (set xs (x.depth - 1) x) ≡ trail_to (take n xs) x
+written xs n x below near most =
+    let e : x.depth ≡ x.depth - 1 + 1 = omega arith in
+    ap (λ m. take m (set xs (x.depth - 1) x)) e
+    ∙ take_more_set xs (x.depth - 1) x (omega arith)
+    ∙ ap (λ u. u ++ (x ∷ [])) (sym (take-take (x.depth - 1) n xs (omega arith)))

@@ -1,7 +1,8 @@
 -- Shows that visits, and itineraries, are equal just where their tests say so.
-use Rattle.std.proofs.Common.{◌≡◌, Decides, refl, ap}
+use Rattle.std.proofs.Common.{◌≡◌, Bool, List, Decides, refl, ap}
 use Rattle.std.proofs.lemmas.Bool.Decides.{Decides-eqb, Decides-and, Decides-like}
 use Rattle.std.proofs.lemmas.Slice.Eq.{slice_eq-Decides}
+use lib.Pointwise.{pointwise}
 use Rattle.van_slab.specs.declared.Visit.{Visit}
 use Rattle.van_slab.specs.declared.Itinerary.{Itinerary}
 use Rattle.van_slab.specs.Equality.{same_visit, same_itinerary}
@@ -13,10 +14,13 @@ visit_decides x y =
     (λ e. (ap (λ (v : Visit). v.booking) e, (ap (λ (v : Visit). v.kind) e, ap (λ (v : Visit). v.second) e)))
     (Decides-and _ _ (Decides-eqb x.booking y.booking) (Decides-and _ _ (Decides-eqb x.kind y.kind) (Decides-eqb x.second y.second)))
 
+pub visits_decide : (xs ys : List Visit) (r : Bool) → r ≡ pointwise same_visit xs ys → Decides r (xs ≡ ys)
+visits_decide = slice_eq-Decides visit_decides
+
 pub itinerary_decides : (x y : Itinerary) → Decides (same_itinerary x y) (x ≡ y)
 itinerary_decides x y =
     Decides-like _
     (λ (p : (x.cost ≡ y.cost) × ((x.stops ≡ y.stops) × (x.visits ≡ y.visits))). λ i. record { cost = p.0 i; stops = p.1.0 i; visits = p.1.1 i })
     (λ e. (ap (λ (r : Itinerary). r.cost) e, (ap (λ (r : Itinerary). r.stops) e, ap (λ (r : Itinerary). r.visits) e)))
     (Decides-and _ _ (Decides-eqb x.cost y.cost)
-    (Decides-and _ _ (Decides-eqb x.stops y.stops) (slice_eq-Decides visit_decides x.visits y.visits _ refl)))
+    (Decides-and _ _ (Decides-eqb x.stops y.stops) (visits_decide x.visits y.visits _ refl)))

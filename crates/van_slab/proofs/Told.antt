@@ -1,5 +1,5 @@
 -- Shows what an itinerary tells of a trail, node by node.
-use Rattle.std.proofs.Common.{◌≡◌, ℕ, zero, suc, ◌+◌, ◌-◌, ◌<◌, ◌≤◌, List, [], ◌∷◌, ◌++◌, map, length, get_or, replicate, Some, None, Option, sym, refl, ap, subst, ⊎_elim, ◌∙◌, arith}
+use Rattle.std.proofs.Common.{◌≡◌, ℕ, zero, suc, ◌+◌, ◌-◌, ◌<◌, ◌≤◌, List, [], ◌∷◌, ◌++◌, map, length, take, get_or, replicate, Some, None, Option, sym, refl, ap, subst, ⊎_elim, ◌∙◌, arith}
 use Rattle.std.proofs.lemmas.Bool.{cases_lt}
 use Rattle.std.specs.Array.{IsFromFnResult, IsFromFnResultFrom}
 use Rattle.std.specs.Fn.{Called}
@@ -11,12 +11,16 @@ use denote.Ref.{Bor}
 use denote.Param.Members.{Mut}
 use Rattle.orders.specs.declared.Node.{Node}
 use Rattle.van_slab.specs.declared.Visit.{Visit}
-use Rattle.van_slab.specs.Trails.{trail_cost, visit_of, visit_at, no_visit, told}
+use Rattle.van_slab.specs.Trails.{trail_to, trail_cost, visit_of, visit_at, no_visit, told}
 
 pub cost_push : (t : List Node) (x : Node) → trail_cost (t ++ (x ∷ [])) ≡ x.cost
 cost_push [] x = refl
 cost_push (y ∷ []) x = refl
 cost_push (y ∷ z ∷ t) x = cost_push (z ∷ t) x
+
+-- a trail to a node costs as much as the node
+pub leaf_cost : (t : List Node) (x : Node) → trail_cost (trail_to t x) ≡ x.cost
+leaf_cost t x = cost_push (take (x.depth - 1) t) x
 
 -- the cost of a trail is that of the node at its end
 cost_of_end : (t : List Node) (x : Node) → slice_get t (length t - 1) ≡ Some x → x.cost ≡ trail_cost t

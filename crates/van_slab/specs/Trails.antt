@@ -1,5 +1,5 @@
 -- Defines the orders that a row of nodes lists, whatever the nodes hold: each as a trail, the nodes from a root down to its end.
-use Rattle.std.specs.Prelude.{ℕ, ◌+◌, ◌-◌, Bool, cond, ◌&&◌, List, [], ◌∷◌, ◌++◌, map, length, take, replicate, slice_index_or, Some, None, Option, ◌==◌, nat_le, nat_lt}
+use Rattle.std.specs.Prelude.{ℕ, ◌+◌, ◌-◌, Bool, true, cond, ◌&&◌, List, [], ◌∷◌, ◌++◌, map, length, take, replicate, slice_index_or, Some, None, Option, ◌==◌, nat_le, nat_lt}
 use Rattle.std.specs.Option.{option_map}
 use Rattle.std.specs.List.{slice_get}
 use Rattle.orders.specs.declared.Node.{Node}
@@ -60,6 +60,11 @@ told t = record { cost = trail_cost t; stops = length t; visits = map visit_of t
 -- the itinerary of the first order of least cost that a slab lists, if it lists one
 abbrev pub cheapest_order : List Node → Option Itinerary
 cheapest_order xs = option_map told (cheapest_trail (trails [] xs))
+
+-- a cost is below that of the best order so far, if there is one
+abbrev pub beats : ℕ → Option Itinerary → Bool
+beats cost None = true
+beats cost (Some best) = nat_lt cost best.cost
 
 -- the itinerary of the order at an index from 0, in the sequence of the slab
 abbrev pub order_at : List Node → ℕ → Option Itinerary

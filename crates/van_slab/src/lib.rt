@@ -2,9 +2,10 @@
 #![tactic(auto)]
 
 ghost use Rattle.std.specs.Prelude.{◌≡◌, Decides};
-ghost use Rattle.std.specs.Cmp.{IsEquivalence};
+ghost use Rattle.std.specs.Cmp.{IsEquivalence, partial_equiv_from_equiv};
 ghost use Rattle.orders.specs.Rules.{rules};
 ghost use Rattle.van_slab.specs.Equality.{same_itinerary};
+ghost use Rattle.van_slab.specs.EqualityLemmas.{same_itinerary_laws};
 ghost use Rattle.van_slab.specs.Trails.{visit_of, kind_told};
 ghost use Rattle.van_slab.specs.Laws.{ExactReading, BoundedReading};
 
@@ -65,12 +66,34 @@ impl From<Node> for Visit {
 }
 
 /// An order as a van drives it: its cost, how many stops it has, and these in turn; visits that are not used are all zeros.
-#[derive(Clone, Copy, PartialEq, Eq, Debug)]
+#[derive(Clone, Copy, Debug)]
 pub struct Itinerary {
     pub cost: u32,
     // Kept: a small plain array passed by value, so that an answer is `Copy`.
     pub stops: u32,
     pub visits: [Visit; MOST_STOPS],
+}
+
+/// Itineraries are equal where all their parts are.
+// Not derived: who calls a derived `==` is not told that it decides equality.
+impl PartialEq for Itinerary {
+    ghost eq = { same_itinerary };
+
+    ghost laws = { partial_equiv_from_equiv same_itinerary_laws };
+
+    fn eq(&self, other: &Itinerary) -> bool
+        ensures test { result ≡ same_itinerary self.now other.now }
+        ensures decides { Decides result (self.now ≡ other.now) }
+    {
+        if self.cost != other.cost || self.stops != other.stops {
+            return false;
+        }
+        self.visits == other.visits
+    }
+}
+
+impl Eq for Itinerary {
+    ghost laws = { same_itinerary_laws };
 }
 
 /// Whether two itineraries tell the same: all their parts are equal. The test is an equivalence.
@@ -80,7 +103,7 @@ pub fn is_same(itinerary: &Itinerary, other: &Itinerary) -> bool
     ensures decides { Decides result (itinerary.now ≡ other.now) }
     ensures laws { IsEquivalence same_itinerary }
 {
-    itinerary == other
+    *itinerary == *other
 }
 
 /// A slab that holds the tree of a van with one to four open bookings lists just the van's valid orders, and each as it is
