@@ -1,6 +1,6 @@
 -- Shows what trying the i-th booking of a position adds to what grows from it.
 use denote.Ref.{Bor}
-use Rattle.std.proofs.Common.{◌≡◌, ℕ, ◌+◌, ◌<◌, ◌≤◌, false, List, ◌∷◌, length, get_or, drop, Some, None, Option, sym, ap, ◌∙◌, subst, arith}
+use Rattle.std.proofs.Common.{◌≡◌, ℕ, ◌+◌, ◌<◌, ◌≤◌, false, List, ◌∷◌, length, get_or, drop, Some, None, Option, sym, refl, ap, ◌∙◌, subst, arith}
 use Rattle.std.proofs.lemmas.List.{drop_more, drop_all}
 use Rattle.orders.specs.declared.Booking.{Booking}
 use Rattle.orders.specs.declared.Node.{Node}
@@ -11,12 +11,14 @@ use Rattle.orders.specs.Trees.{stop}
 use Rattle.growth.specs.declared.walk.Position.{Position}
 use Rattle.growth.specs.declared.walk.Visit.{Visit}
 use Rattle.growth.specs.declared.guide.Fresh.{Fresh}
+use Rattle.growth.specs.declared.tally.Branch.{Branch}
 use Rattle.growth.specs.declared.tally.Root.{Root}
 use Rattle.growth.specs.declared.tally.Tally.{Tally}
 use Rattle.growth.specs.Positions.{compact, walk_of, Sound, Visited, Stepped}
 use Rattle.growth.specs.Guides.{new_to, grown, grown_row, grown_from}
-use Rattle.growth.specs.Roots.{from_here, from_next, IsRoot, Grows}
+use Rattle.growth.specs.Roots.{from_here, from_next, LeadsOn, Branches, IsRoot, Grows}
 use Rattle.growth.specs.Surveys.{none_open, Tallies}
+use Rattle.orders.proofs.Basics.{some_same}
 use Rattle.growth.proofs.Branched.{not_guided, not_allowed, led_on}
 use Rattle.growth.proofs.Counts.{size, length_nodes, grown_fits, few_open}
 use Rattle.growth.proofs.Tallies.{grown_all, Tallied, tallied_all, dead_end, one_stop}
@@ -55,6 +57,9 @@ module _ (g : Rules) (fresh : Fresh) (old : List Node) (p : Position) (sound : S
   pub nothing_grows : (x : Option Root) → x ≡ None → Same → Grows g fresh old p i x
   nothing_grows x e same = subst (Grows g fresh old p i) (sym e) same
 
+  pub no_branch : (x : Option Branch) → x ≡ None → Same → Branches g fresh old p i x
+  no_branch x e same = subst (Branches g fresh old p i) (sym e) same
+
   module _ (b : Booking) (its : get_or p.bookings i None ≡ Some b) (n : ℕ) (n_is : n ≡ number_of b) where
     abbrev later : List Booking
     later = compact (drop (i + 1) p.bookings)
@@ -71,10 +76,16 @@ module _ (g : Rules) (fresh : Fresh) (old : List Node) (p : Position) (sound : S
       pub refused : Stepped g p (get_or p.bookings i None) None → Same
       refused s = ap (grown_from g fresh old (walk_of p)) first ∙ not_allowed g fresh old (walk_of p) b n n_is on e (subst (λ o. Stepped g p o None) its s) later
 
-      module _ (v : Visit) (stepped : Stepped g p (get_or p.bookings i None) (Some v)) (r : Tally) (tallies : Tallies g fresh on (walk_of v.position) r) where
-        visited : Visited g p b v
-        visited = subst (λ o. Stepped g p o (Some v)) its stepped
+      -- it is visited next
+      pub leads_on : (v : Visit) → Stepped g p (get_or p.bookings i None) (Some v) → (h : Bor (List Node)) → h.now ≡ on → LeadsOn g fresh old p i (record { visit = v; old = h })
+      leads_on v stepped h lent = record {
+        booking = b;
+        its = its;
+        guided = ap (λ m. guide_row (new_to fresh) m old) (sym n_is) ∙ e ∙ ap Some (sym lent);
+        visited = subst (λ o. Stepped g p o (Some v)) its stepped;
+      }
 
+      module _ (v : Visit) (visited : Visited g p b v) (r : Tally) (tallies : Tallies g fresh on (walk_of v.position) r) where
         -- no order goes on from it
         pub stuck : r.least ≡ None → Same
         stuck none =
@@ -91,3 +102,13 @@ module _ (g : Rules) (fresh : Fresh) (old : List Node) (p : Position) (sound : S
           fewer = visited.fewer;
           below = subst (λ o. Tallies g fresh o (walk_of v.position) (record { count = r.count; least = Some cost })) (sym lent) (record { count = tallies.count; least = sym some ∙ tallies.least });
         }
+
+  -- the same, of what leads on
+  pub stuck_there : (x : Branch) → LeadsOn g fresh old p i x → (r : Tally) → Tallies g fresh x.old.now (walk_of x.visit.position) r → r.least ≡ None → Same
+  stuck_there x l r tallies none = stuck l.booking l.its (number_of l.booking) refl x.old.now l.guided x.visit l.visited r tallies none
+
+  pub rooted_there : (x : Branch) → LeadsOn g fresh old p i x → (b : Booking) → get_or p.bookings i None ≡ Some b → (r : Tally) → Tallies g fresh x.old.now (walk_of x.visit.position) r →
+      (cost : ℕ) → r.least ≡ Some cost → IsRoot g fresh old p i (record { booking = b; visit = x.visit; old = x.old; below = r.count; least = cost })
+  rooted_there x l b its r tallies cost some =
+      subst (λ c. IsRoot g fresh old p i (record { booking = c; visit = x.visit; old = x.old; below = r.count; least = cost })) (some_same _ l.booking b l.its its)
+      (rooted l.booking l.its (number_of l.booking) refl x.old.now l.guided x.visit l.visited r tallies cost some x.old refl)

@@ -3,7 +3,7 @@ ghost use Rattle.std.specs.Prelude.{◌≡◌, ◌<◌, Some};
 ghost use Rattle.growth.specs.Grounds.{rules_of};
 ghost use Rattle.growth.specs.Positions.{compact, walk_of, Sound};
 ghost use Rattle.growth.specs.Changes.{Suffices};
-ghost use Rattle.growth.specs.Roots.{Grows};
+ghost use Rattle.growth.specs.Roots.{Branches, Grows};
 ghost use Rattle.growth.specs.Slabs.{own_slab, Laid};
 ghost use Rattle.growth.specs.Surveys.{none_open, lesser, Tallies, Surveys};
 
@@ -29,6 +29,13 @@ pub(crate) struct Growth<'a, R, S> {
     pub old: &'a [Node],
     pub fresh: Fresh,
     pub position: Position,
+}
+
+/// A stop to go on with: the visit to it, and where to look on in the old tree.
+#[derive(Clone, Copy)]
+pub(crate) struct Branch<'a> {
+    pub visit: Visit,
+    pub old: &'a [Node],
 }
 
 /// A root of a tree: its booking and the visit to it, where to look on in the old tree, how many nodes stand below it, and
@@ -57,20 +64,30 @@ fn least_with(least: Option<u32>, cost: u32) -> Option<u32>
 }
 
 impl<'a, R: Roads, S: Stowage> Growth<'a, R, S> {
-    /// The next stop of the i-th booking, if the old tree has it, it may be served next, and an order goes on from it.
-    #[cycle(tally)]
-    pub(crate) fn try_next(self, i: usize) -> Option<Root<'a>>
-        requires sound { Sound self.position }
+    /// The next stop of the i-th booking, if the old tree has it and it may be served next.
+    fn branch(&self, i: usize) -> Option<Branch<'a>>
+        requires sound { Sound self.now.position }
         requires within { i < 4 }
-        ensures { Grows (rules_of R.Roads S.Stowage self.entry.ground) self.entry.fresh self.entry.old.now self.entry.position i result }
+        ensures { Branches (rules_of R.Roads S.Stowage self.now.ground) self.now.fresh self.now.old.now self.now.position i result }
     {
         let booking = self.position.bookings[i]?;
         let old = self.fresh.look_on(self.old, booking.number())?;
-        let visit = step(self.ground, self.position, i)?;
+        let visit = step(self.ground, &self.position, i)?;
+        Some(Branch { visit, old })
+    }
+
+    /// The next stop of the i-th booking, if the old tree has it, it may be served next, and an order goes on from it.
+    pub(crate) fn try_next(&self, i: usize) -> Option<Root<'a>>
+        requires sound { Sound self.now.position }
+        requires within { i < 4 }
+        ensures { Grows (rules_of R.Roads S.Stowage self.now.ground) self.now.fresh self.now.old.now self.now.position i result }
+    {
+        let booking = self.position.bookings[i]?;
+        let Branch { visit, old } = self.branch(i)?;
         let tree = Growth {
             old,
             position: visit.position,
-            ..self
+            ..*self
         };
         let below = tree.tally();
         let least = below.least?;
@@ -84,10 +101,10 @@ impl<'a, R: Roads, S: Stowage> Growth<'a, R, S> {
     }
 
     /// The tally of the tree.
-    #[cycle(tally)]
-    pub(crate) fn tally(self) -> Tally
-        requires { Sound self.position }
-        ensures { Tallies (rules_of R.Roads S.Stowage self.entry.ground) self.entry.fresh self.entry.old.now (walk_of self.entry.position) result }
+    // A branch and no root is looked at here, so that what only a writer needs is not handed up from each stop.
+    pub(crate) fn tally(&self) -> Tally
+        requires { Sound self.now.position }
+        ensures { Tallies (rules_of R.Roads S.Stowage self.now.ground) self.now.fresh self.now.old.now (walk_of self.now.position) result }
     {
         if nothing_open(&self.position.bookings) {
             return Tally {
@@ -97,11 +114,19 @@ impl<'a, R: Roads, S: Stowage> Growth<'a, R, S> {
         }
         let mut count = 0;
         let mut least = None;
-        // Kept: the number of a booking's place is what `try_next` takes, since serving its stop is a write to that place.
+        // Kept: the number of a booking's place is what `branch` takes, since serving its stop is a write to that place.
         for i in 0..4 {
-            if let Some(root) = self.try_next(i) {
-                count += 1 + root.below;
-                least = least_with(least, root.least);
+            if let Some(branch) = self.branch(i) {
+                let tree = Growth {
+                    old: branch.old,
+                    position: branch.visit.position,
+                    ..*self
+                };
+                let below = tree.tally();
+                if let Some(cost) = below.least {
+                    count += 1 + below.count;
+                    least = least_with(least, cost);
+                }
             }
         }
         Tally { count, least }

@@ -90,12 +90,12 @@ fn within_limits<R: Roads, S: Stowage>(
 /// The visit to the next stop of the i-th booking, if that is open and may be served next.
 pub(crate) fn step<R: Roads, S: Stowage>(
     ground: Ground<R, S>,
-    position: Position,
+    position: &Position,
     i: usize,
 ) -> Option<Visit>
-    requires sound { Sound position }
+    requires sound { Sound position.now }
     requires within { i < 4 }
-    ensures { Stepped (rules_of R.Roads S.Stowage ground.entry) position (slice_index_or position.bookings i None) result }
+    ensures { Stepped (rules_of R.Roads S.Stowage ground.entry) position.now (slice_index_or position.now.bookings i None) result }
 {
     let booking = position.bookings[i]?;
     let stop = booking.next_stop();
