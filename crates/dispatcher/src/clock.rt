@@ -3,7 +3,7 @@ ghost use Rattle.std.specs.Prelude.{◌≡◌, ◌≤◌, true, length, is_ok, O
 ghost use Rattle.growth.specs.Grounds.{rules_of};
 ghost use Rattle.fleet.specs.SoundTest.{is_sound};
 ghost use Rattle.fleet.specs.States.{clock_call, Changes};
-ghost use Rattle.outcomes.specs.Settled.{needed, waits, waiting_vans, Writes, PrunedTo};
+ghost use Rattle.outcomes.specs.Settled.{needed, has_tree, waits, waiting_vans, Writes, PrunedTo};
 ghost use Rattle.outcomes.specs.Outcomes.{with_nodes};
 
 use crate::Dispatcher;
@@ -13,11 +13,20 @@ use orders::Node;
 use roads::Roads;
 use stowage::Stowage;
 
-/// Whether a van on duty has a time below this one, and a tree that can change.
-fn is_waiting(slot: Option<Van>, time: u32) -> bool
-    ensures { result ≡ waits time slot }
+/// Whether a van has a tree that can change, which is so where something is open. The places are looked at where they stand:
+/// a count takes a van by value, and the clock asks this of each van.
+fn has_tree(van: &Van) -> bool
+    ensures { result ≡ has_tree van.now }
 {
-    slot.is_some_and(|van| van.second < time && van.open_count() > 0)
+    van.bookings.iter().any(|held| held.is_some())
+}
+
+/// Whether a van on duty has a time below this one, and a tree that can change.
+fn is_waiting(slot: &Option<Van>, time: u32) -> bool
+    ensures { result ≡ waits time slot.now }
+{
+    slot.as_ref()
+        .is_some_and(|van| van.second < time && has_tree(van))
 }
 
 impl<'a, R: Roads, S: Stowage> Dispatcher<'a, R, S> {
@@ -29,7 +38,7 @@ impl<'a, R: Roads, S: Stowage> Dispatcher<'a, R, S> {
         ensures { PrunedTo (rules_of R.Roads S.Stowage self.now.ground) before.now self.now.state time nodes.old before.now.size nodes.new }
     {
         for (i, slot) in before.vans[..before.size as usize].iter().enumerate() {
-            if is_waiting(*slot, time) {
+            if is_waiting(slot, time) {
                 self.renew(nodes, i as u32 + 1, Fresh::Nobody);
             }
         }

@@ -27,9 +27,9 @@ pub fn run<R: Roads, S: Stowage>(
 {
     let mut dispatcher = Dispatcher::new(ground, vans, open_limit, nodes)?;
     let count = calls.len().min(answers.len());
-    // Kept: the places are written by index, since a proof knows nothing of what is written through a zip.
-    for (i, call) in calls[..count].iter().enumerate() {
-        answers[i] = dispatcher.obey(nodes, *call);
+    // Kept: by index, since a proof knows nothing of what is written through a zip.
+    for i in 0..count {
+        answers[i] = dispatcher.obey(nodes, calls[i]);
     }
     Ok(count)
 }

@@ -103,7 +103,7 @@ impl State {
         ensures { self.new ≡ record { size = self.old.size; open_limit = self.old.open_limit; clock = self.old.clock; vans = map (waited time) self.old.vans } }
     {
         for slot in self.vans.iter_mut() {
-            *slot = waited(*slot, time);
+            wait(slot, time);
         }
     }
 
@@ -182,15 +182,13 @@ impl State {
     }
 }
 
-/// A van on duty at this time at least.
-fn waited(slot: Option<Van>, time: u32) -> Option<Van>
-    ensures { result ≡ waited time slot }
+/// A van on duty is at this time at least. Only its second is written, so that no van is copied.
+fn wait(slot: &mut Option<Van>, time: u32)
+    ensures { slot.new ≡ waited time slot.old }
 {
-    let van = slot?;
-    Some(Van {
-        second: van.second.max(time),
-        ..van
-    })
+    if let Some(van) = slot {
+        van.second = van.second.max(time);
+    }
 }
 
 /// The booking of this number that is open on a van.

@@ -1,6 +1,5 @@
 -- Call after call is a step of the run.
-use Rattle.std.proofs.Common.{◌≡◌, get_or, take, drop, refl, ◌∙◌, subst, arith, length-take}
-use Rattle.std.proofs.lemmas.List.{get_or-take}
+use Rattle.std.proofs.Common.{◌≡◌, get_or, take, drop, refl, ◌∙◌, subst, arith}
 use Rattle.orders.specs.Rules.{Lawful}
 use Rattle.fleet.specs.declared.call.Call.TheVariants.{Clock}
 use Rattle.fleet.specs.Terms.{terms_of}
@@ -19,14 +18,11 @@ loop-i-preserved g c =
     let s = c.loop-i.dispatcher.state in
     let call = get_or c.args.calls.now c.loop-i.i (Clock 0) in
     let inv = c.loop-i.invariant in
-    let few = length-take c.min-count.result c.args.calls.now in
-    let count = c.min-count.ensures in
-    let l = c.loop-i-test.true in
-    let same = get_or-take c.min-count.result c.args.calls.now c.loop-i.i (Clock 0) (omega arith) in
-    let does = subst (λ x. Does t x s c.loop-i.nodes c.obey.result c.obey.new.self.state c.obey.new.nodes) same
-    (subst (λ ground. Does (terms_of g.R.Roads g.S.Stowage ground) (get_or (take c.min-count.result c.args.calls.now) c.loop-i.i (Clock 0)) s c.loop-i.nodes c.obey.result c.obey.new.self.state c.obey.new.nodes) inv.0 c.obey.ensures.does) in
+    let does = subst (λ ground. Does (terms_of g.R.Roads g.S.Stowage ground) call s c.loop-i.nodes c.obey.result c.obey.new.self.state c.obey.new.nodes) inv.0 c.obey.ensures.does in
     let step = step_of t lawful call s c.loop-i.nodes c.obey.result c.obey.new.self.state c.obey.new.nodes c.loop-i.dispatcher.sound c.obey.new.self.sound inv.1 does in
-    let long = c.loop-i.auto.answers in (
+    let count = c.min-count.ensures in
+    let long = c.loop-i.auto.answers in
+    let l = c.loop-i-test.true in (
       c.obey.ensures.ground ∙ inv.0,
       does.writes.settled inv.1,
       run_turn t _ _ _ c.args.calls.now c.loop-i.answers c.loop-i.i (Clock 0) c.obey.result (omega arith) (omega arith) inv.2 step,
@@ -39,8 +35,6 @@ returns g c =
     let first : Machine = record { state = c.in_ok-dispatcher.dispatcher.state; nodes = c.new.new.nodes } in
     let last : Machine = record { state = c.loop-i.dispatcher.state; nodes = c.loop-i.nodes } in
     let inv = c.loop-i.invariant in
-    let few = length-take c.min-count.result c.args.calls.now in
-    let count = c.min-count.ensures in
     let l = c.loop-i-test.false in
     let k = c.loop-i.auto.i-end in
     let e : c.loop-i.i ≡ c.min-count.result = omega arith in (

@@ -7,7 +7,7 @@ use Rattle.fleet.proofs.state.State.wait_all.Goals as goal
 pub loop-slot-preserved : goal.loop-slot-preserved
 loop-slot-preserved c =
     let there : c.loop-slot.slot-index < length c.args.self.now.vans = search rules in
-    ap (set c.loop-slot.slot-items c.loop-slot.slot-index) c.waited.ensures
+    ap (set c.loop-slot.slot-items c.loop-slot.slot-index) c.wait.ensures
     ∙ one_more (waited c.args.time) c.args.self.now.vans c.loop-slot.slot-items c.loop-slot.slot-index there c.loop-slot.invariant
 
 pub returns : goal.returns
