@@ -2,4 +2,5 @@
 pub mod Splits
 pub mod Parted
 pub mod Digits
+pub mod Folds
 pub mod Rows

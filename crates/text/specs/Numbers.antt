@@ -27,6 +27,10 @@ abbrev pub below : ℕ → Option ℕ → Option ℕ
 below limit None = None
 below limit (Some n) = cond (nat_lt n limit) (Some n) None
 
+-- The number that is written when the byte b follows the digits that wrote n, if b is a digit.
+abbrev pub with_next : ℕ → ℕ → Option ℕ
+with_next n b = cond (is_digit b) (Some (n * 10 + (b - 48))) None
+
 -- A number of 1 to 10 digits that fits 32 bits.
 abbrev pub number32 : List ℕ → Option ℕ
 number32 bs = cond (nat_le (length bs) 10) (below (2 ^ 32) (decimal bs)) None

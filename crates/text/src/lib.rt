@@ -1,13 +1,12 @@
 //! Lines of fields parted by commas, and the decimal numbers in them.
 #![tactic(auto)]
 
-ghost use Rattle.std.specs.Prelude.{◌≡◌, ◌==◌, ◌+◌, ◌^◌, ◌∷◌, length, position, IfSome, IfOk, vec_items};
+ghost use Rattle.std.specs.Prelude.{◌≡◌, ◌==◌, ◌+◌, ◌^◌, ◌<◌, ◌≤◌, ◌∷◌, length, position, IfSome, IfOk, vec_items};
 ghost use Rattle.std.specs.Option.{option_map};
 ghost use Rattle.text.specs.Fields.{comma, bytes_left, field_of, rest_of, fields, fields_left, PartsOneWay};
-ghost use Rattle.text.specs.Numbers.{all_digits, below, decimal, number32, needless_zero, short_number, numbers_of};
+ghost use Rattle.text.specs.Numbers.{below, decimal, with_next, number32, needless_zero, short_number, numbers_of};
 
 use std::alloc::{AllocError, Global};
-use std::str;
 
 /// The byte that parts fields.
 const COMMA: u8 = b',';
@@ -96,22 +95,27 @@ pub fn count_fields(line: &[u8]) -> usize
     line.split(is_comma).count()
 }
 
-/// Whether each byte is a digit.
-fn is_all_digits(field: &[u8]) -> bool
-    ensures { result ≡ all_digits field.now }
+/// The number with one more digit behind it, if the byte is a digit.
+fn with_digit(number: u64, byte: &u8) -> Option<u64>
+    requires { number < 10 ^ 10 }
+    ensures { result ≡ with_next number byte.now }
 {
-    field.iter().all(u8::is_ascii_digit)
-}
-
-/// The number that a field writes in decimal digits, if it fits 32 bits.
-fn read_digits(field: &[u8]) -> Option<u32>
-    ensures { result ≡ below (2 ^ 32) (decimal field.now) }
-{
-    // `parse` alone would take a sign too.
-    if !is_all_digits(field) {
+    if !byte.is_ascii_digit() {
         return None;
     }
-    str::from_utf8(field).ok()?.parse().ok()
+    Some(number * 10 + u64::from(*byte - b'0'))
+}
+
+/// The number that a field of at most 10 bytes writes in decimal digits, if it fits 32 bits.
+fn read_digits(field: &[u8]) -> Option<u32>
+    requires { length field.now ≤ 10 }
+    ensures { result ≡ below (2 ^ 32) (decimal field.now) }
+{
+    if field.is_empty() {
+        return None;
+    }
+    let number = field.iter().try_fold(0, with_digit)?;
+    u32::try_from(number).ok()
 }
 
 /// The number of 1 to 10 digits that a field writes, if it fits 32 bits.

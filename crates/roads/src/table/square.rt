@@ -35,7 +35,7 @@ impl<'a> SquareTable<'a> {
         requires to_within { to < self.places }
         ensures { result ≡ table_trip self.entry.places self.entry.seconds.now from to }
     {
-        self.seconds[(from * self.places + to) as usize]
+        self.seconds[from as usize * self.places as usize + to as usize]
     }
 
     /// Whether the seconds at a position are too many for a trip, or lead from a place to itself and are not 0.
@@ -62,12 +62,13 @@ impl<'a> SquareTable<'a> {
 
     /// Whether the way through `via` is shorter than the trip.
     fn is_shortcut(self, from: u32, via: u32, to: u32) -> bool
+        requires none_bad { NoneBad self.places self.seconds.now (length self.seconds.now) }
         requires from_within { from < self.places }
         requires via_within { via < self.places }
         requires to_within { to < self.places }
         ensures { result ≡ shortcut (table_trip self.entry.places self.entry.seconds.now) from via to }
     {
-        self.trip(from, via).saturating_add(self.trip(via, to)) < self.trip(from, to)
+        self.trip(from, via) + self.trip(via, to) < self.trip(from, to)
     }
 
     /// Refuses the first shortcut, by `from`, then `via`, then `to`, of a table with no bad entry.

@@ -1,20 +1,22 @@
--- `parse` reads the number of a field that is all digits.
-use Rattle.std.proofs.Common.{sym, subst, ◌∙◌}
-use Rattle.std.specs.Str.Parse.{ParsesUnsigned}
-use Rattle.text.proofs.Digits.{digits_utf8, no_number, read_by_parse, no_text, read_text}
+-- The fold over the field's bytes reads the number that the field writes.
+use Rattle.std.proofs.Common.{◌≡◌, ◌^◌, ◌<◌, length, Some, rules, sym, ap, subst, ◌∙◌, arith}
+use Rattle.std.proofs.lemmas.Bool.{eqb-false}
+use Rattle.text.specs.Numbers.{below, decimal}
+use Rattle.text.proofs.Folds.{fold_callable, read_by_fold}
 use Rattle.text.proofs.read_digits.Goals as goal
 
-pub returns-then-not-is_all_digits : goal.returns-then-not-is_all_digits
-returns-then-not-is_all_digits c = no_number 4294967296 c.args.field.now (sym c.if-not-is_all_digits.ensures)
+pub try_fold-requires-clause-callable : goal.try_fold-requires-clause-callable
+try_fold-requires-clause-callable c =
+    fold_callable _ (λ f n x r h k. search rules) (λ f n x l. search rules) c.args.field.now _ _ c.iter.ensures.rest c.requires
 
-pub returns-in_err-ok : goal.returns-in_err-ok
-returns-in_err-ok c =
-    let none = no_text c.from_utf8.result _ _ c.from_utf8.ensures.cases (sym c.ok.ensures.value ∙ c.in_err-ok.was) in
-    absurd (none.1.0 (digits_utf8 c.args.field.now (sym c.if-not-is_all_digits.ensures)))
+pub returns-in_err-number : goal.returns-in_err-number
+returns-in_err-number c =
+    let some : 0 < length c.args.field.now = omega (arith, eqb-false _ 0 (sym c.if-is_empty.ensures)) in
+    c.from_residual.ensures ∙ ap (below (2 ^ 32)) (sym c.in_err-number.was ∙ read_by_fold _ _ (λ f n x r h k. search rules) c.args.field.now _ _ _ c.try_fold.result c.iter.ensures.rest some c.try_fold.ensures.ran)
 
 pub returns : goal.returns
 returns c =
-    let text = read_text c.from_utf8.result _ _ _ c.from_utf8.ensures.cases (sym c.ok.ensures.value ∙ c.in_ok-ok.was) in
-    c.ok-2.ensures.value
-    ∙ read_by_parse c.args.field.now c.parse.result (sym c.if-not-is_all_digits.ensures)
-    (subst (λ bs. ParsesUnsigned 32 10 bs c.parse.result) text.0 c.parse.ensures.value.0)
+    let some : 0 < length c.args.field.now = omega (arith, eqb-false _ 0 (sym c.if-is_empty.ensures)) in
+    let is : Some c.in_ok-number.number ≡ decimal c.args.field.now =
+    sym c.in_ok-number.was ∙ read_by_fold _ _ (λ f n x r h k. search rules) c.args.field.now _ _ _ c.try_fold.result c.iter.ensures.rest some c.try_fold.ensures.ran in
+    subst (λ o. c.ok.result ≡ below 4294967296 o) is (search rules)
