@@ -1,7 +1,7 @@
 //! The desk at which a day is set up.
 ghost use Rattle.std.specs.Prelude.{◌≡◌};
 ghost use Rattle.std.specs.Option.{option_map};
-ghost use Rattle.console.specs.Desks.{setting, unset, standing, stands, Obeys, quoted_there};
+ghost use Rattle.console.specs.Desks.{laid, setting, unset, standing, stands, Obeys, quoted_there};
 ghost use Rattle.console.specs.Meaning.{meaning};
 ghost use Rattle.console.specs.Replies.{or_refused};
 
@@ -45,12 +45,19 @@ impl Desk {
         Desk::default()
     }
 
+    /// The roads, once they stand.
+    pub fn roads(&self) -> Option<&AnyRoads>
+        ensures { option_map (λ r. laid r.now) result ≡ (setting self.now).roads }
+    {
+        self.roads.as_ref()
+    }
+
     /// The roads and the rule, once both stand.
     pub fn site(&self) -> Option<Site<'_>>
         ensures { option_map standing result ≡ stands (setting self.now) }
     {
         Some(Site {
-            roads: self.roads.as_ref()?,
+            roads: self.roads()?,
             rule: self.rule?,
         })
     }

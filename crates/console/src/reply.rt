@@ -8,7 +8,7 @@ use std::fmt;
 use stowage::Promise;
 
 /// What a line is answered.
-#[derive(Clone, Copy)]
+#[derive(Clone, Copy, Debug)]
 pub enum Reply {
     Nothing,
     NotUnderstood,

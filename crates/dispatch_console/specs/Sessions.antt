@@ -9,6 +9,7 @@ use Rattle.orders.specs.declared.Node.{Node}
 use Rattle.orders.specs.Slabs.{slab_size}
 use Rattle.fleet.specs.Answers.{Answer, accepted}
 use Rattle.fleet.specs.declared.call.Call.{Call}
+use Rattle.fleet.specs.declared.refusal.Refusal.{Refusal}
 use Rattle.fleet.specs.declared.state.State.{State}
 use Rattle.fleet.specs.Quotes.{quoted}
 use Rattle.fleet.specs.Terms.{Terms}
@@ -21,7 +22,7 @@ use Rattle.dispatch_console.specs.declared.reply.Reply.{Reply}
 use Rattle.dispatch_console.specs.declared.reply.Reply.TheVariants.{Plain, Help}
 use Rattle.dispatch_console.specs.declared.session.Session.{Session}
 use Rattle.dispatch_console.specs.Lines.{Asked, plain, help, nodes, make, call}
-use Rattle.dispatch_console.specs.Replies.{answer_reply, quote_reply}
+use Rattle.dispatch_console.specs.Replies.{answer_reply, quote_reply, refusal_reply}
 
 -- the present state, the node memory, and the calls so far
 pub record Moment : Type 0 where
@@ -37,9 +38,9 @@ abbrev pub nodes_given : Option ℕ → Size → ℕ
 nodes_given (Some count) size = count
 nodes_given None size = cond (nat_le 1 size.vans && nat_le size.vans 32) ((size.vans + 1) * slab_size size.open_limit) 0
 
--- what keeps a day over so many nodes from beginning: a refusal, as long as there is memory
+-- what keeps a day over so many nodes from beginning, as long as there is memory: a refusal, which is what is answered
 abbrev pub Prevents : Size → ℕ → NotBegun → Type 0
-Prevents size count (Refused f) = make_call size.vans size.open_limit count ≡ Err f
+Prevents size count (Refused reply) = (f : Refusal) × (make_call size.vans size.open_limit count ≡ Err f) × (reply ≡ refusal_reply f)
 Prevents size count (OutOfMemory e) = Unit {0}
 
 -- a call goes to the dispatcher with the node memory; its answer is told, and counted

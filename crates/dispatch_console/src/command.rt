@@ -96,6 +96,10 @@ fn read_worded(
 pub fn read_command(heap: Global, line: &[u8]) -> Result<Command, AllocError>
     ensures { IfOk result (λ c. meaning c ≡ asked line.now) }
 {
+    // No word is empty or begins with '#': a line that does needs no search for one.
+    if matches!(line, [] | [b'#', ..]) {
+        return Ok(Command::Plain(console::Command::Nothing));
+    }
     let (first, rest) = split_field(Rest::whole(line));
     let Some(word) = Word::from_bytes(first.bytes) else {
         return Ok(Command::Plain(console::read_command(heap, line)?));

@@ -11,7 +11,7 @@ use std::fmt;
 use van_slab::{Itinerary, Visit};
 
 /// What a line is answered.
-#[derive(Clone, Copy)]
+#[derive(Clone, Copy, Debug)]
 pub enum Reply {
     /// What a day without a dispatcher answers too.
     Plain(console::Reply),

@@ -36,8 +36,8 @@ fn run_session<S: Stowage, B: BufRead + Drop>(
     };
     let mut session = match Session::begin(heap, ground, site.nodes, size) {
         Ok(session) => session,
-        Err(NotBegun::Refused(refusal)) => {
-            answer(rt, refusal.into())?;
+        Err(NotBegun::Refused(reply)) => {
+            answer(rt, reply)?;
             return Ok(None);
         }
         Err(NotBegun::OutOfMemory(error)) => return Err(error.into()),
