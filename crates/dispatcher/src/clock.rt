@@ -13,11 +13,11 @@ use orders::Node;
 use roads::Roads;
 use stowage::Stowage;
 
-/// Whether a van has a tree that can change, which is so where something is open. The places are looked at where they stand:
-/// a count takes a van by value, and the clock asks this of each van.
+/// Whether a van has a tree that can change, which is so where something is open.
 fn has_tree(van: &Van) -> bool
     ensures { result ≡ has_tree van.now }
 {
+    // By reference, since the clock asks this of each van, and a count would copy each.
     van.bookings.iter().any(|held| held.is_some())
 }
 

@@ -101,7 +101,6 @@ impl<'a, R: Roads, S: Stowage> Growth<'a, R, S> {
     }
 
     /// The tally of the tree.
-    // A branch and no root is looked at here, so that what only a writer needs is not handed up from each stop.
     pub(crate) fn tally(&self) -> Tally
         requires { Sound self.now.position }
         ensures { Tallies (rules_of R.Roads S.Stowage self.now.ground) self.now.fresh self.now.old.now (walk_of self.now.position) result }
@@ -116,6 +115,7 @@ impl<'a, R: Roads, S: Stowage> Growth<'a, R, S> {
         let mut least = None;
         // Kept: the number of a booking's place is what `branch` takes, since serving its stop is a write to that place.
         for i in 0..4 {
+            // By `branch` and not `try_next`: what only a writer needs is not handed up from each stop.
             if let Some(branch) = self.branch(i) {
                 let tree = Growth {
                     old: branch.old,

@@ -8,11 +8,11 @@ own : IsNumeralModel (λ bs. all_digits bs ≡ true) (value_after 0)
 own = numerals_by_fold _ (search rules) value_after (search rules)
 
 -- a number is written by digits alone, at least one
-pub decimal_from_digits : (bs : List ℕ) → 0 < length bs → all_digits bs ≡ true → decimal bs ≡ Some (value_after 0 bs)
+decimal_from_digits : (bs : List ℕ) → 0 < length bs → all_digits bs ≡ true → decimal bs ≡ Some (value_after 0 bs)
 decimal_from_digits [] some all = absurd (omega arith)
 decimal_from_digits (b ∷ bs) some all = cond-true _ _ _ all
 
-pub no_decimal : (bs : List ℕ) → all_digits bs ≡ false → decimal bs ≡ None
+no_decimal : (bs : List ℕ) → all_digits bs ≡ false → decimal bs ≡ None
 no_decimal [] not_all = refl
 no_decimal (b ∷ bs) not_all = cond-false _ _ _ not_all
 

@@ -1,11 +1,10 @@
--- Shows that visits, and itineraries, are equal just where their tests say so.
-use Rattle.std.proofs.Common.{◌≡◌, Bool, List, Decides, refl, ap}
+-- Shows that visits, and lists of them, are equal just where their tests say so.
+use Rattle.std.proofs.Common.{◌≡◌, Bool, List, Decides, ap}
 use Rattle.std.proofs.lemmas.Bool.Decides.{Decides-eqb, Decides-and, Decides-like}
 use Rattle.std.proofs.lemmas.Slice.Eq.{slice_eq-Decides}
 use lib.Pointwise.{pointwise}
 use Rattle.van_slab.specs.declared.Visit.{Visit}
-use Rattle.van_slab.specs.declared.Itinerary.{Itinerary}
-use Rattle.van_slab.specs.Equality.{same_visit, same_itinerary}
+use Rattle.van_slab.specs.Equality.{same_visit}
 
 visit_decides : (x y : Visit) → Decides (same_visit x y) (x ≡ y)
 visit_decides x y =
@@ -16,11 +15,3 @@ visit_decides x y =
 
 pub visits_decide : (xs ys : List Visit) (r : Bool) → r ≡ pointwise same_visit xs ys → Decides r (xs ≡ ys)
 visits_decide = slice_eq-Decides visit_decides
-
-pub itinerary_decides : (x y : Itinerary) → Decides (same_itinerary x y) (x ≡ y)
-itinerary_decides x y =
-    Decides-like _
-    (λ (p : (x.cost ≡ y.cost) × ((x.stops ≡ y.stops) × (x.visits ≡ y.visits))). λ i. record { cost = p.0 i; stops = p.1.0 i; visits = p.1.1 i })
-    (λ e. (ap (λ (r : Itinerary). r.cost) e, (ap (λ (r : Itinerary). r.stops) e, ap (λ (r : Itinerary). r.visits) e)))
-    (Decides-and _ _ (Decides-eqb x.cost y.cost)
-    (Decides-and _ _ (Decides-eqb x.stops y.stops) (visits_decide x.visits y.visits _ refl)))

@@ -61,7 +61,7 @@ told t = record { cost = trail_cost t; stops = length t; visits = map visit_of t
 abbrev pub cheapest_order : List Node → Option Itinerary
 cheapest_order xs = option_map told (cheapest_trail (trails [] xs))
 
--- a cost is below that of the best order so far, if there is one
+-- a cost is below that of the best order so far, or there is none
 abbrev pub beats : ℕ → Option Itinerary → Bool
 beats cost None = true
 beats cost (Some best) = nat_lt cost best.cost

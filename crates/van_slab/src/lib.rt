@@ -75,7 +75,7 @@ pub struct Itinerary {
 }
 
 /// Itineraries are equal where all their parts are.
-// Not derived: who calls a derived `==` is not told that it decides equality.
+// Kept: not derived, since who calls a derived `==` is not told that it decides equality.
 impl PartialEq for Itinerary {
     ghost eq = { same_itinerary };
 

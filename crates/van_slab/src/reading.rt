@@ -59,6 +59,7 @@ pub fn cheapest_order(slab: &[Node]) -> Option<Itinerary>
 {
     let mut orders = Orders::listed(slab);
     let mut best = None;
+    // Kept: `min_by_key` does the same, and made an itinerary of each order.
     while let Some(cost) = orders.next() {
         if is_cheaper(cost, &best) {
             best = Some(orders.trail.itinerary());
@@ -90,7 +91,7 @@ fn ends_order(node: &Node) -> bool
     node.span == 1
 }
 
-/// Whether a cost is below that of the best order so far, if there is one.
+/// Whether a cost is below that of the best order so far, or there is none.
 fn is_cheaper(cost: u32, best: &Option<Itinerary>) -> bool
     ensures { result ≡ beats cost best.now }
 {

@@ -1,5 +1,5 @@
 -- Each turn adds the tally of one root, or nothing.
-use Rattle.std.proofs.Common.{◌+◌, Some, sym, refl, drop, arith, ◌∙◌}
+use Rattle.std.proofs.Common.{◌+◌, Some, refl, drop, arith, ◌∙◌}
 use Rattle.growth.specs.Grounds.{rules_of}
 use Rattle.growth.specs.Positions.{compact, walk_of}
 use Rattle.growth.proofs.Tallies.{tally_nothing, tallied_same, tallied_more}
